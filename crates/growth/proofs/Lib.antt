@@ -9,3 +9,4 @@ pub mod Whole
 pub mod Grown
 pub mod Handed
 pub mod Roomy
+pub mod Longer

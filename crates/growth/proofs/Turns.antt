@@ -208,10 +208,10 @@ module _ (g : Geometry) (p : ℕ) (lowest : Bool) where
     at-last {n} h =
         subst (λ (m : ℕ). Inside g m last n) as-long (inside (stand-room g p lowest (c .growing .stand)) (stand-slot g p lowest (c .growing .stand)) h)
 
-    pub longer-fits : l < 32 → writes ≡ true → field g d last (0x17 + 2 * (r - 1)) % 32 < 31
-    longer-fits h b =
-        let w = c .growing .stand .after h .2 in
-        subst (λ (m : List ℕ). field g m last (0x17 + 2 * (r - 1)) % 32 < 31) (sym (c .wrote b)) (omega arith)
+    pub longer-fits : {m : ℕ} → 0 < m → l + m ≤ 32 → writes ≡ true → field g d last (0x17 + 2 * (r - 1)) % 32 + m < 32
+    longer-fits {m} o h b =
+        let w = c .growing .stand .after (omega arith) .2 in
+        subst (λ (z : List ℕ). field g z last (0x17 + 2 * (r - 1)) % 32 + m < 32) (sym (c .wrote b)) (omega arith)
 
     pub some-runs : l < 32 → (1 ≤ r) × (r - 1 < 4)
     some-runs h = let a = c .growing .few in let b = c .growing .stand .after h .0 in (b, omega arith)

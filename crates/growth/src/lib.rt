@@ -1,4 +1,4 @@
-// A file grows: granules are taken one at a time, first on paper, then on the disk.
+// A file grows: granules are taken run by run, first on paper, then on the disk.
 use meaning::Geometry;
 ghost use mathlib.Core.Path.{_≡_};
 ghost use mathlib.Core.Bool.{true, false, cond};
@@ -13,6 +13,7 @@ ghost use Rattle.laws.specs.Steps.{Ready};
 ghost use Rattle.layout.specs.Room.{Room, Slot};
 ghost use Rattle.growth.specs.Inside.{Inside};
 ghost use Rattle.growth.specs.Choose.{choiceBy, Known, Picked, Leaves};
+ghost use Rattle.growth.specs.Longer.{longer, Further};
 
 // Where a new run starts; by the second choice, how long the stretch there is.
 pub struct Chosen {
@@ -20,19 +21,18 @@ pub struct Chosen {
     pub most: usize,
 }
 
-// One further granule, m, in pair k of the entry at slot e: in the GAT, and in the entry where it writes.
-fn put_longer(image: &mut [u8], g: Geometry, e: usize, k: usize, m: usize, writes: bool)
-    requires { ⌜ Inside g (length (now image)) e m × (k < 4) × (writes ≡ true → field g (now image) e (0x17 + 2 * k) % 32 < 31) ⌝ }
-    ensures { λ _. ⌜ now (image .exit) ≡ takeGranule g
-        (cond writes (setField g (now (image .entry)) e (0x17 + 2 * k) (field g (now (image .entry)) e (0x17 + 2 * k) + 1)) (now (image .entry))) m ⌝ }
+// m further granules, from a on, in pair k of the entry at slot e: in the GAT, and in the entry where it writes.
+fn put_longer(image: &mut [u8], g: Geometry, e: usize, k: usize, a: usize, m: usize, writes: bool)
+    requires { ⌜ Room g (now image) × (entryAt g e + 32 ≤ length (now image)) × (a + m ≤ granules g) × (k < 4)
+        × (writes ≡ true → field g (now image) e (0x17 + 2 * k) % 32 + m < 32) ⌝ }
+    ensures { λ _. ⌜ now (image .exit) ≡ longer g writes e (0x17 + 2 * k) a m (now (image .entry)) ⌝ }
 {
+    let second = layout::entry_byte(image, g, e, layout::SECONDS + 2 * k);
+    space::take_run(image, g, a, m);
     if !writes {
-        layout::take_granule(image, g, m);
         return;
     }
-    let second = layout::entry_byte(image, g, e, layout::SECONDS + 2 * k);
-    layout::set_field(image, g, e, layout::SECONDS + 2 * k, second + 1);
-    layout::take_granule(image, g, m);
+    layout::set_field(image, g, e, layout::SECONDS + 2 * k, second + m);
 }
 
 // Granule n as a run of its own, pair k of the entry at slot e: in the GAT, and in the entry where it writes.
@@ -133,8 +133,35 @@ fn choose(image: &[u8], g: Geometry, next: usize, most: usize, lowest: bool) -> 
     }
 }
 
-// k further granules for the file at slot p, whose last entry is at slot e, one at a time by 01's choice or by the second; whether that finds
-// too few slots. The growth on paper and the one on the disk are this one loop: where it does not write, only the GAT shows what it took.
+// The smaller of two numbers.
+fn smaller(a: usize, b: usize) -> usize
+    ensures { λ r. ⌜ (r ≤ a) × (r ≤ b) × (0 < a → 0 < b → 0 < r) ⌝ }
+{
+    if a < b {
+        return a;
+    }
+    b
+}
+
+// How many granules of `left` the last run takes at once: it ends before granule `after` and has `long`, and up to 32 of them.
+fn further(image: &[u8], g: Geometry, after: usize, long: usize, left: usize) -> usize
+    requires { ⌜ Room g (now image) ⌝ }
+    ensures { λ r. ⌜ Further g (now (image .entry)) after long left r ⌝ }
+{
+    let total = layout::granules(g);
+    if layout::MOST_RUN <= long {
+        return 0;
+    }
+    if total <= after {
+        return 0;
+    }
+    let most = smaller(left, smaller(layout::MOST_RUN - long, total - after));
+    growth_search::clear_from(image, g, after, most)
+}
+
+// k further granules for the file at slot p, whose last entry is at slot e, by 01's choice or by the second; whether that finds too few slots.
+// Those that lengthen a run are taken at once. The growth on paper and the one on the disk are this one loop: where it does not write, only
+// the GAT shows what it took.
 fn take_granules(
     image: &mut [u8],
     g: Geometry,
@@ -158,15 +185,15 @@ fn take_granules(
     let mut slot = 0;
     let mut left = k;
     while 0 < left {
-        left -= 1;
-        if long < layout::MOST_RUN {
-            if growth_search::is_clear(image, g, after) {
-                put_longer(image, g, last, runs - 1, after, writes);
-                after += 1;
-                long += 1;
-                continue;
-            }
+        let m = further(image, g, after, long, left);
+        if 0 < m {
+            put_longer(image, g, last, runs - 1, after, m, writes);
+            after += m;
+            long += m;
+            left -= m;
+            continue;
         }
+        left -= 1;
         let c = choose(image, g, next, most, lowest);
         let n = c.at;
         next = n;

@@ -24,6 +24,12 @@ pub record IsClear (g : Geometry) (d : List ℕ) (n : ℕ) (r : Bool) : Type 0 w
   pub yes : r ≡ true → (n < granules g) × (taken g d n ≡ false)
   pub no : r ≡ false → (granules g ≤ n) ⊎ (taken g d n ≡ true)
 
+-- r granules from a on are clear in the GAT, and the next is not, where it is one of n
+pub record ClearFrom (g : Geometry) (d : List ℕ) (a n r : ℕ) : Type 0 where
+  pub few : r ≤ n
+  pub clear : (k : ℕ) → k < r → taken g d (a + k) ≡ false
+  pub ends : r < n → taken g d (a + r) ≡ true
+
 -- granules n to n + many − 1 are on the disk and clear in the GAT
 abbrev pub Stretch : Geometry → List ℕ → ℕ → ℕ → Type 0
 Stretch g d n many = (k : ℕ) → n ≤ k → k < n + many → (k < granules g) × (taken g d k ≡ false)

@@ -1,13 +1,13 @@
 // What a growth looks for: the granule and the slot that come next, and whether there are enough of both. The disk stays as it is.
 use meaning::Geometry;
 ghost use mathlib.Core.Path.{_≡_};
-ghost use Prim.Native.Nat.{_≤_};
+ghost use Prim.Native.Nat.{_+_, _*_, _≤_, _<_};
 ghost use lib.ListN.{length};
 ghost use lib.Dec.{ltb};
-ghost use Rattle.meaning.specs.Layout.{granules};
+ghost use Rattle.meaning.specs.Layout.{granules, mostUnits};
 ghost use Rattle.meaning.specs.Free.{freeGranules};
 ghost use Rattle.layout.specs.Room.{Room, Slot};
-ghost use Rattle.growth_search.specs.Search.{Ends, IsClear, AllClear, NextFree, LongestFrom, NextSlot};
+ghost use Rattle.growth_search.specs.Search.{Ends, IsClear, ClearFrom, AllClear, NextFree, LongestFrom, NextSlot};
 
 // The runs of an entry; the granule after the last of them, and how long that one is. `long` is 32 where there is none.
 pub struct Ending {
@@ -139,6 +139,35 @@ pub fn is_clear(image: &[u8], g: Geometry, n: usize) -> bool
         return false;
     }
     !layout::taken(image, g, n)
+}
+
+// How many granules of block b are clear from unit u on, up to the first that is taken, n at the most: a bit set behind the last ends the count.
+fn units_clear(image: &[u8], g: Geometry, b: usize, u: usize, n: usize) -> usize
+    requires { ⌜ (256 * g .start + b < length (now image)) × (u + n ≤ g .units) × (g .units ≤ mostUnits) ⌝ }
+    ensures { λ r. ⌜ ClearFrom g (now (image .entry)) (b * g .units + u) n r ⌝ }
+{
+    let x = layout::gat_byte(image, g, b);
+    usize::trailing_zeros((x >> u) | (1 << n)) as usize
+}
+
+// How many granules are clear from a on, up to the first that is taken, n at the most: block by block.
+pub fn clear_from(image: &[u8], g: Geometry, a: usize, n: usize) -> usize
+    requires { ⌜ Room g (now image) × (a + n ≤ granules g) ⌝ }
+    ensures { λ r. ⌜ ClearFrom g (now (image .entry)) a n r ⌝ }
+{
+    let mut b = a / g.units;
+    let mut u = a % g.units;
+    let mut left = n;
+    while g.units < u + left {
+        let m = units_clear(image, g, b, u, g.units - u);
+        if m < g.units - u {
+            return n - left + m;
+        }
+        left -= g.units - u;
+        b += 1;
+        u = 0;
+    }
+    n - left + units_clear(image, g, b, u, left)
 }
 
 // Whether granules n to n + many - 1 are on the disk and clear in the GAT.
