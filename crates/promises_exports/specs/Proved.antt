@@ -1,0 +1,338 @@
+-- What is promised of a host's call is so: where the slice is long enough the call is that of demand 2 (promises: Kept), with the handle that its bytes
+-- hold; where it is too short, 1, a fault's number or 12 is told, and nothing is touched.
+use Prim.Native.Nat.{ℕ}
+use mathlib.Core.Path.{_≡_, refl, sym, ap, subst, _∙_}
+use mathlib.Core.Logic.{_≢_}
+use mathlib.Core.Bool.{Bool, true, false, not, cond}
+use mathlib.Core.List.{List, [], _∷_}
+use lib.Dec.{T}
+use lib.ListN.{length}
+use lib.Seq.{sets}
+use borrow.Author.Tests.{eq-eqb, ne-eqb, ltb-false}
+use Rattle.meaning.specs.Amount.{oneRecord, wholeBuffer, howMany}
+use Rattle.meaning.specs.Refusals.{first, diskRefusals}
+use Rattle.meaning.specs.Read.{readOf}
+use Rattle.meaning.specs.Write.{writeOf}
+use Rattle.meaning.specs.Calls.{Call, number, leaves}
+use Rattle.meaning.specs.declared.Geometry.{Geometry}
+use Rattle.meaning.specs.declared.Listed.{Listed}
+use Rattle.lists.specs.First.{first-in}
+use Rattle.lists.specs.Tests.{first-at}
+use Rattle.lists.specs.Members.{In}
+use Rattle.promises.specs.Said.{says}
+use Rattle.promises.specs.Promises.{Stays, Refuses, Exactly, table, diskCases}
+use Rattle.promises.specs.Refusing.{exactly, disk-reading}
+use Rattle.promises.specs.Staying.{stays-same}
+use Rattle.promises.specs.Kept.{every-call, every-write, stays-after}
+use Rattle.promises_numbers.specs.Statement.{rowsOf}
+use Rattle.promises_numbers.specs.Kept.{every-number}
+use Rattle.genie_codec.specs.Codec.{handleBytes, handleOf, stored}
+use Rattle.genie_codec.specs.Words.{modeOf}
+use Rattle.genie_codec.proofs.Fitting.{open-fits, create-fits, read-fits, write-fits}
+use Rattle.genie.specs.Exports as exports
+use Rattle.genie.specs.Exports.{moves, tells}
+use Rattle.promises_handles.specs.HandleBytes.{stored-back, stored-length, stored-zeros}
+use Rattle.promises_exports.specs.Host.{HostCall, checks, looksUp, opens, creates, reads, readsSector, writes, allots, trims, kills, lists, counts}
+use Rattle.promises_exports.specs.Host.{measures}
+use Rattle.promises_exports.specs.Host.{LeftToHost, leftBy, callOf, tooShort, lentHandle, lentBuffer, handleStood}
+use Rattle.promises_exports.specs.Host.{HandsOver, HostPromise, EveryHostCall, AllBring, Along, EveryHostState, EveryHostWrite}
+
+pub no-truth : false ≡ true → ⊥
+no-truth e = subst (λ (t : Bool). T (not t)) e tt
+
+-- Long enough, and too short --------------------------------------------------------------------------------------------------------------
+
+module _ (g : Geometry) (d : List ℕ) where
+  -- the number is that of demand 2's call
+  pub number-is : (c : HostCall) → tooShort c ≡ false → leftBy g d c .number ≡ number g d (callOf c)
+  unfolding number moves tells
+  number-is checks e = refl
+  number-is (looksUp n) e = refl
+  number-is (opens n len checking code b) e = rw e refl
+  number-is (creates n f checking b) e = rw e refl
+  number-is (reads oneRecord b x) e = rw e refl
+  number-is (reads wholeBuffer b x) e = rw e refl
+  number-is (readsSector b k) e = rw e refl
+  number-is (writes oneRecord m b x) e = rw e refl
+  number-is (writes wholeBuffer m b x) e = rw e refl
+  number-is (allots b k) e = rw e refl
+  number-is (trims b) e = rw e refl
+  number-is (kills b) e = rw e refl
+  number-is (lists i b) e = rw e refl
+  number-is counts e = refl
+  number-is measures e = refl
+
+  -- and so is the image
+  pub image-is : (c : HostCall) → tooShort c ≡ false → leftBy g d c .image ≡ leaves g d (callOf c)
+  unfolding leaves moves
+  image-is checks e = refl
+  image-is (looksUp n) e = refl
+  image-is (opens n len checking code b) e = refl
+  image-is (creates n f checking b) e = rw e refl
+  image-is (reads oneRecord b x) e = refl
+  image-is (reads wholeBuffer b x) e = refl
+  image-is (readsSector b k) e = refl
+  image-is (writes oneRecord m b x) e = rw e refl
+  image-is (writes wholeBuffer m b x) e = rw e refl
+  image-is (allots b k) e = rw e refl
+  image-is (trims b) e = rw e refl
+  image-is (kills b) e = rw e refl
+  image-is (lists i b) e = refl
+  image-is counts e = refl
+  image-is measures e = refl
+
+  -- what is lent too short is turned away
+  abbrev turned : ℕ
+  turned = first (diskRefusals g d ((12, true) ∷ []))
+
+  turned-number : (c : HostCall) → tooShort c ≡ true → leftBy g d c .number ≡ turned
+  unfolding exports.tooShort
+  turned-number checks e = absurd (no-truth e)
+  turned-number (looksUp n) e = absurd (no-truth e)
+  turned-number counts e = absurd (no-truth e)
+  turned-number measures e = absurd (no-truth e)
+  turned-number (opens n len checking code b) e = rw e refl
+  turned-number (creates n f checking b) e = rw e refl
+  turned-number (reads oneRecord b x) e = rw e refl
+  turned-number (reads wholeBuffer b x) e = rw e refl
+  turned-number (readsSector b k) e = rw e refl
+  turned-number (writes oneRecord m b x) e = rw e refl
+  turned-number (writes wholeBuffer m b x) e = rw e refl
+  turned-number (allots b k) e = rw e refl
+  turned-number (trims b) e = rw e refl
+  turned-number (kills b) e = rw e refl
+  turned-number (lists i b) e = rw e refl
+
+  turned-image : (c : HostCall) → tooShort c ≡ true → leftBy g d c .image ≡ d
+  turned-image checks e = refl
+  turned-image (looksUp n) e = refl
+  turned-image (opens n len checking code b) e = refl
+  turned-image (creates n f checking b) e = rw e refl
+  turned-image (reads a b x) e = refl
+  turned-image (readsSector b k) e = refl
+  turned-image (writes oneRecord m b x) e = rw e refl
+  turned-image (writes wholeBuffer m b x) e = rw e refl
+  turned-image (allots b k) e = rw e refl
+  turned-image (trims b) e = rw e refl
+  turned-image (kills b) e = rw e refl
+  turned-image (lists i b) e = refl
+  turned-image counts e = refl
+  turned-image measures e = refl
+
+  turned-handle : (c : HostCall) → tooShort c ≡ true → leftBy g d c .handle ≡ handleStood c
+  turned-handle checks e = refl
+  turned-handle (looksUp n) e = refl
+  turned-handle (opens n len checking code b) e = rw e refl
+  turned-handle (creates n f checking b) e = rw e refl
+  turned-handle (reads oneRecord b x) e = rw e refl
+  turned-handle (reads wholeBuffer b x) e = rw e refl
+  turned-handle (readsSector b k) e = refl
+  turned-handle (writes oneRecord m b x) e = rw e refl
+  turned-handle (writes wholeBuffer m b x) e = rw e refl
+  turned-handle (allots b k) e = refl
+  turned-handle (trims b) e = refl
+  turned-handle (kills b) e = refl
+  turned-handle (lists i b) e = refl
+  turned-handle counts e = refl
+  turned-handle measures e = refl
+
+  turned-buffer : (c : HostCall) → tooShort c ≡ true → leftBy g d c .buffer ≡ lentBuffer c
+  turned-buffer checks e = refl
+  turned-buffer (looksUp n) e = refl
+  turned-buffer (opens n len checking code b) e = refl
+  turned-buffer (creates n f checking b) e = refl
+  turned-buffer (reads oneRecord b x) e = rw e refl
+  turned-buffer (reads wholeBuffer b x) e = rw e refl
+  turned-buffer (readsSector b k) e = refl
+  turned-buffer (writes oneRecord m b x) e = refl
+  turned-buffer (writes wholeBuffer m b x) e = refl
+  turned-buffer (allots b k) e = refl
+  turned-buffer (trims b) e = refl
+  turned-buffer (kills b) e = refl
+  turned-buffer (lists i b) e = rw e refl
+  turned-buffer counts e = refl
+  turned-buffer measures e = refl
+
+  turned-exactly : Exactly turned (diskCases g d ((12, Unit {0}) ∷ []))
+  turned-exactly =
+      exactly (diskRefusals g d ((12, true) ∷ [])) (diskCases g d ((12, Unit {0}) ∷ []))
+      (disk-reading g d ((12, true) ∷ []) ((12, Unit {0}) ∷ []) (refl, λ x. (λ t. tt, λ t. tt), tt)) tt
+
+  -- 12 at the latest: it is refused
+  never-accepted : turned ≢ 0
+  never-accepted z = no-truth (sym (first-at (diskRefusals g d ((12, true) ∷ [])) z refl 11))
+
+  -- Each number is of its table -----------------------------------------------------------------------------------------------------------------
+
+  pub numbered : (c : Call) → In (number g d c) (0 ∷ rowsOf (table g d c))
+  numbered c = let e = every-number g d c in subst (λ (ns : List ℕ). In (number g d c) (0 ∷ ns)) (sym (e .table′)) (e .one-of)
+
+  -- Under a refusal every lent byte is as it stood ----------------------------------------------------------------------------------------------
+
+  refused : (c : Call) → number g d c ≢ 0 → Refuses g d c (says g d c)
+  refused c z = every-call g d c .refuses z .1
+
+  stood-handle : (c : HostCall) → tooShort c ≡ false → number g d (callOf c) ≢ 0 → leftBy g d c .handle ≡ handleStood c
+  unfolding number moves
+  stood-handle checks e z = refl
+  stood-handle (looksUp n) e z = refl
+  stood-handle (opens n len checking code b) e z = rw e
+      (ap (stored b) (refused (Call.opens n len checking code) z) ∙ stored-zeros b (ltb-false (length b) handleBytes e))
+  stood-handle (creates n f checking b) e z = rw e
+      (ap (stored b) (refused (Call.creates n f checking) z .0) ∙ stored-zeros b (ltb-false (length b) handleBytes e))
+  stood-handle (reads oneRecord b x) e z = rw e (rw (ne-eqb _ 0 z) refl)
+  stood-handle (reads wholeBuffer b x) e z = rw e (rw (ne-eqb _ 0 z) refl)
+  stood-handle (readsSector b k) e z = refl
+  stood-handle (writes oneRecord m b x) e z = rw e (rw (ne-eqb _ 0 z) refl)
+  stood-handle (writes wholeBuffer m b x) e z = rw e (rw (ne-eqb _ 0 z) refl)
+  stood-handle (allots b k) e z = refl
+  stood-handle (trims b) e z = refl
+  stood-handle (kills b) e z = refl
+  stood-handle (lists i b) e z = refl
+  stood-handle counts e z = refl
+  stood-handle measures e z = refl
+
+  stood-buffer : (c : HostCall) → tooShort c ≡ false → number g d (callOf c) ≢ 0 → leftBy g d c .buffer ≡ lentBuffer c
+  unfolding number moves tells
+  stood-buffer checks e z = refl
+  stood-buffer (looksUp n) e z = refl
+  stood-buffer (opens n len checking code b) e z = refl
+  stood-buffer (creates n f checking b) e z = refl
+  stood-buffer (reads oneRecord b x) e z = rw e (refused (Call.reads oneRecord (handleOf b) x) z .1)
+  stood-buffer (reads wholeBuffer b x) e z = rw e (refused (Call.reads wholeBuffer (handleOf b) x) z .1)
+  stood-buffer (readsSector b i) e z = refl
+  stood-buffer (writes oneRecord m b x) e z = refl
+  stood-buffer (writes wholeBuffer m b x) e z = refl
+  stood-buffer (allots b i) e z = refl
+  stood-buffer (trims b) e z = refl
+  stood-buffer (kills b) e z = refl
+  stood-buffer (lists i b) e z = rw e (ap (λ (l : Listed). cond (l .more) (sets b 0 (l .name)) b) (refused (Call.lists i) z))
+  stood-buffer counts e z = refl
+  stood-buffer measures e z = refl
+
+  -- What an accepted call hands over ----------------------------------------------------------------------------------------------------------------
+
+  hands : (c : HostCall) → tooShort c ≡ false → number g d (callOf c) ≡ 0 → HandsOver g d c (leftBy g d c)
+  unfolding number moves tells
+  hands checks e z = tt
+  hands (looksUp n) e z = (refl, refl)
+  hands (opens n len checking code b) e z =
+      rw e (stored-back b _ (open-fits g d n len checking code) (ltb-false (length b) handleBytes e))
+  hands (creates n f checking b) e z = rw e (stored-back b _ (create-fits g d n f checking) (ltb-false (length b) handleBytes e), refl)
+  hands (reads oneRecord b x) e z =
+      rw e (rw (eq-eqb _ 0 z) (λ f. stored-back b _ (read-fits g d (handleOf b) (handleOf b .len) x f) (ltb-false (length b) handleBytes e), refl))
+  hands (reads wholeBuffer b x) e z =
+      rw e (rw (eq-eqb _ 0 z) (λ f. stored-back b _ (read-fits g d (handleOf b) (length x) x f) (ltb-false (length b) handleBytes e), refl))
+  hands (readsSector b k) e z = rw e (refl, refl, refl)
+  hands (writes oneRecord m b x) e z =
+      rw e (rw (eq-eqb _ 0 z)
+      (λ f. stored-back b _ (write-fits g d (modeOf m) (handleOf b) (handleOf b .len) x f) (ltb-false (length b) handleBytes e), refl))
+  hands (writes wholeBuffer m b x) e z =
+      rw e (rw (eq-eqb _ 0 z) (λ f. stored-back b _ (write-fits g d (modeOf m) (handleOf b) (length x) x f) (ltb-false (length b) handleBytes e), refl))
+  hands (allots b k) e z = refl
+  hands (trims b) e z = refl
+  hands (kills b) e z = refl
+  hands (lists i b) e z = rw e (refl, refl, refl, refl)
+  hands counts e z = (refl, refl)
+  hands measures e z = (refl, refl)
+
+  -- the slice of the handle is as long as it was
+  pub handle-length : (c : HostCall) → tooShort c ≡ false → number g d (callOf c) ≡ 0 → length (leftBy g d c .handle) ≡ length (lentHandle c)
+  unfolding number moves
+  handle-length checks e z = refl
+  handle-length (looksUp n) e z = refl
+  handle-length (opens n len checking code b) e z = rw e (stored-length b _)
+  handle-length (creates n f checking b) e z = rw e (stored-length b _)
+  handle-length (reads oneRecord b x) e z = rw e (rw (eq-eqb _ 0 z) (stored-length b _))
+  handle-length (reads wholeBuffer b x) e z = rw e (rw (eq-eqb _ 0 z) (stored-length b _))
+  handle-length (readsSector b k) e z = refl
+  handle-length (writes oneRecord m b x) e z = rw e (rw (eq-eqb _ 0 z) (stored-length b _))
+  handle-length (writes wholeBuffer m b x) e z = rw e (rw (eq-eqb _ 0 z) (stored-length b _))
+  handle-length (allots b k) e z = refl
+  handle-length (trims b) e z = refl
+  handle-length (kills b) e z = refl
+  handle-length (lists i b) e z = refl
+  handle-length counts e z = refl
+  handle-length measures e z = refl
+
+  -- All of it ------------------------------------------------------------------------------------------------------------------------------------
+
+  of-call : (c : HostCall) → tooShort c ≡ false → HostPromise g d c (leftBy g d c)
+  of-call c e =
+      let p = every-call g d (callOf c) in
+      let n = number-is c e in
+      let u : leftBy g d c .number ≢ 0 → number g d (callOf c) ≢ 0 = λ z y. z (n ∙ y) in
+      record {
+        is = refl;
+        numbered = rw e (rw n (numbered (callOf c)));
+        exactly = rw e (rw n (p .numbers));
+        refuses = λ z. record {
+          image = image-is c e ∙ p .refuses (u z) .0;
+          handle = stood-handle c e (u z);
+          buffer = stood-buffer c e (u z);
+        };
+        serves = λ a z. (sym n ∙ z, p .serves a (sym n ∙ z), image-is c e);
+        hands = λ z. hands c e (sym n ∙ z);
+        stays = λ o b. subst (Stays g d) (sym (image-is c e)) (p .stays o b);
+      }
+
+  of-short : (c : HostCall) → tooShort c ≡ true → HostPromise g d c (leftBy g d c)
+  of-short c e =
+      let n = turned-number c e in
+      record {
+        is = refl;
+        numbered = rw e (rw n (first-in (diskRefusals g d ((12, true) ∷ []))));
+        exactly = rw e (rw n turned-exactly);
+        refuses = λ z. record { image = turned-image c e; handle = turned-handle c e; buffer = turned-buffer c e };
+        serves = λ a z. absurd (never-accepted (sym n ∙ z));
+        hands = λ z. absurd (never-accepted (sym n ∙ z));
+        stays = λ o b. subst (Stays g d) (sym (turned-image c e)) (stays-same g d o);
+      }
+
+-- demands 1 and 2, of every call that a host makes
+pub every-host-call : EveryHostCall
+every-host-call g d c = by (tooShort c) refl
+  where
+    by : (t : Bool) → tooShort c ≡ t → HostPromise g d c (leftBy g d c)
+    by true e = of-short g d c e
+    by false e = of-call g d c e
+
+along : (g : Geometry) (d₀ d : List ℕ) → Stays g d₀ d → (cs : List HostCall) → AllBring cs → Along g d₀ d cs
+along g d₀ d s [] b = s
+along g d₀ d s (c ∷ cs) b =
+    let p = every-host-call g d c in
+    let d′ = leftBy g d c .image in (s, p, along g d₀ d′ (stays-after g d₀ d d′ s (p .stays (s .good) (b .0))) cs (b .1))
+
+-- from each state that a host's calls reach
+pub every-host-state : EveryHostState
+every-host-state g d o cs b = along g d d (stays-same g d o) cs b
+
+-- an accepted call was lent slices that are long enough
+pub long-enough : (g : Geometry) (d : List ℕ) (c : HostCall) → leftBy g d c .number ≡ 0 → tooShort c ≡ false
+long-enough g d c z = by (tooShort c) refl
+  where
+    by : (t : Bool) → tooShort c ≡ t → t ≡ false
+    by true e = absurd (never-accepted g d (sym (turned-number g d c e) ∙ z))
+    by false e = refl
+
+-- what is written is what is read back
+pub every-host-write : EveryHostWrite
+unfolding number leaves
+every-host-write g d a m b x x′ z l same =
+    let h = handleOf b in let n = howMany a (h .len) x in
+    let w = writes a m b x in let e = long-enough g d w z in
+    let d′ = leftBy g d w .image in
+    let back = every-write g d (modeOf m) h n x (sym (number-is g d w e) ∙ z) in
+    let i : d′ ≡ writeOf g d (modeOf m) h n x .1 = image-is g d w e in
+    let ok : number g d′ (Call.reads a h x′) ≡ 0
+    = ap (λ (k : ℕ). readOf g d′ h k x′ .0 .refusal .number) same ∙ ap (λ (y : List ℕ). readOf g y h n x′ .0 .refusal .number) i ∙ back .accepted′ x′ l in
+    let r = number-is g d′ (reads a b x′) e ∙ ok in
+    record {
+      accepted = r;
+      bytes = every-host-call g d′ (reads a b x′) .hands r .1 ∙ ap (λ (k : ℕ). readOf g d′ h k x′ .1) same
+          ∙ ap (λ (y : List ℕ). readOf g y h n x′ .1) i ∙ back .bytes′ x′ l;
+    }
+
+-- so it is of whatever leaves what the contract says
+pub promise-by : (g : Geometry) (d : List ℕ) (c : HostCall) {l : LeftToHost} → l ≡ leftBy g d c → HostPromise g d c l
+promise-by g d c e = subst (HostPromise g d c) (sym e) (every-host-call g d c)
