@@ -7,13 +7,13 @@ use Prim.Native.Nat.{ℕ, zero, suc, _+_, _-_, _*_, _/_, _%_, _≤_, _<_}
 use native.Mathlib.Omega.{arith}
 use lib.Dec.{T, eqb, leb, ltb, not-T, T-not, eqb→eq, leb→le, nltb→le}
 use lib.ListN.{length, take, drop, replicate, set, length-take, length-replicate, length-append}
-use lib.Seq.{sets}
+use lib.Seq.{sets, getD-set-other}
 use Rattle.meaning.specs.Lists.{count, keep, has, same, all, any, first, firstOr, times, through, every, distinct, some, lastOr}
 use Rattle.meaning.specs.Bits.{putDigit, bit, withBit, withoutBit}
 use Rattle.meaning.specs.Layout.{byte, granuleSectors, granuleBytes, granules, fitsGeometry, taken, takeGranule, freeGranule, hit, hitAt, entryAt, isSlot}
 use Rattle.meaning.specs.Layout.{slots, field, setField, highest, sectorNumbers, granulesFor, directoryGranules, directorySectors, aboveTen}
 use Rattle.meaning.specs.Names.{hash, comesIn, wellFormed}
-use Rattle.meaning.specs.Entries.{extension, inUsePrimary, sectorCount, noGrowth}
+use Rattle.meaning.specs.Entries.{inUse, extension, inUsePrimary, sectorCount, noGrowth, keepsSpace}
 use Rattle.meaning.specs.Entries.{marker, link, nameOf, sizeOf, sizeFrom, system, endByteFor, sectorsFor}
 use Rattle.meaning.specs.Chain.{chain, owned, files, place}
 use Rattle.meaning.specs.Consistent.{lengthHolds, nameHolds, sizeHolds, consistent}
@@ -38,7 +38,8 @@ use Rattle.meaning.specs.Listing.{shown, listed, tellFirst, noFile}
 use Rattle.meaning.specs.FreeSpace.{freeSpace}
 use Rattle.meaning.specs.declared.Geometry.{Geometry}
 use Rattle.meaning.specs.declared.Handle.{Handle}
-use Rattle.meaning.specs.declared.Listed.{Listed}
+use Rattle.meaning.specs.declared.Part.{Part}
+use Rattle.meaning.specs.declared.Refusal.{Refusal}
 use Rattle.meaning.specs.declared.NewFile.{NewFile}
 use Rattle.meaning.specs.declared.Mode.{Mode}
 use Rattle.lists.specs.Members
@@ -57,21 +58,18 @@ use Rattle.laws.specs.Change
 use Rattle.laws.specs.Others
 use Rattle.laws.specs.BringBack as LawsBack
 use Rattle.laws.specs.Passed
+use Rattle.laws.specs.Store.{store-other}
 use Rattle.laws.specs.Rewrite
 use Rattle.laws.specs.Words.{words}
 use Rattle.promises.specs.Grow
-use Rattle.promises_unread.specs.Statement.{Kinds, ReadAlike, AlikeLeft, Apart}
+use Rattle.promises_unread.specs.Statement.{Kinds, BytesAlike, ReadAlike, LeftAlike, Apart}
 use Rattle.promises_unread.specs.Reads
-use Rattle.promises_unread.specs.Reads.{unless, only, primaryIs}
+use Rattle.promises_unread.specs.Reads.{unless, only, two, one-slot}
 use Rattle.promises_unread.specs.Stores
 use Rattle.promises_unread.specs.Stores.{AlikePair, Slot}
 use Rattle.promises_unread.specs.Growing
 
 -- Refusals, one after the other: what comes later is asked where what comes before did not hold -----------------------------------
-
-two : (a x y : Bool) → (a ≡ true → x ≡ y) → all (a ∷ x ∷ []) ≡ all (a ∷ y ∷ [])
-unfolding all
-two a x y f = Reads.and-only a _ _ (λ e. ap (λ (b : Bool). b && true) (f e))
 
 held : (b : Bool) → not b ≡ false → T b
 held true e = tt
@@ -139,14 +137,38 @@ module _ (u : Kinds) (g : Geometry) (d d′ : List ℕ) (a : ReadAlike u g d d�
   unfolding fresh
   fresh-same x =
       Reads.third (isSlot g d (x .slot)) (inUsePrimary g d (x .slot)) _ _ (λ t v.
-      ap (λ (n : List ℕ). same n (x .name)) (Reads.name-at u g d d′ a (x .slot) (Reads.not-extension u g d d′ a (x .slot) v)))
-      ∙ (λ i. all (Reads.isSlot-same u g d d′ a i (x .slot) ∷ primaryIs (Reads.flags u g d d′ a i (x .slot)) ∷ same (nameOf g d′ (x .slot)) (x .name) ∷ []))
+      ap (λ (n : List ℕ). same n (x .name))
+      (Reads.name-at u g d d′ a (x .slot) (Reads.primary-live u g d d′ a (x .slot) v) (Reads.not-extension u g d d′ a (x .slot) v)))
+      ∙ (λ i. all (Reads.isSlot-same u g d d′ a i (x .slot) ∷ Reads.primaries u g d d′ a i (x .slot) ∷ same (nameOf g d′ (x .slot)) (x .name) ∷ []))
+
+  -- what a call by a handle has passed that is not stale
+  pub fresh-file : (x : Handle) → T (fresh g d x) → IsFile g d (x .slot)
+  unfolding fresh all
+  fresh-file x t = record {
+    slot = Members.and-l (isSlot g d (x .slot)) _ t;
+    primary′ = Members.and-l (inUsePrimary g d (x .slot)) _ (Members.and-r (isSlot g d (x .slot)) _ t);
+  }
+
+  size-of : (x : Handle) → T (fresh g d x) → sizeOf g d (x .slot) ≡ sizeOf g d′ (x .slot)
+  size-of x t = Reads.file-size u g d d′ a (x .slot) (fresh-file x t)
+
+  -- a file's bytes 00 and 01
+  file-bytes : (p : ℕ) → IsFile g d p → BytesAlike u (field g d p) (field g d′ p)
+  file-bytes p f = Reads.bytes-at u g d d′ a p (Reads.file-live u g d d′ a p f)
 
   pub handleRefusals-same : handleRefusals g d ≡ handleRefusals g d′
   handleRefusals-same = λ i x ranged rest. diskRefusals-same i ((12, not ranged) ∷ (7, not (fresh-same x i)) ∷ rest)
 
-  protected-same : protected g d ≡ protected g d′
-  protected-same = λ i most x. (6, any (ltb most (x .level) ∷ bit 6 (Reads.flags u g d d′ a i (x .slot)) ∷ []))
+  -- 7 before 6: the system flag is asked of a file
+  protect-at : (most : ℕ) (x : Handle) → T (fresh g d x) → protected g d most x ≡ protected g d′ most x
+  protect-at most x t = let e = file-bytes (x .slot) (fresh-file x t) .flags in λ i. (6, any (ltb most (x .level) ∷ bit 6 (e i) ∷ []))
+
+  guard-number : (most : ℕ) (x : Handle)
+      → first (handleRefusals g d x (inRange g x) (protected g d most x ∷ [])) ≡ first (handleRefusals g d′ x (inRange g x) (protected g d′ most x ∷ []))
+  guard-number most x =
+      after-handle g d x (inRange g x) (protected g d most x ∷ []) (protected g d′ most x ∷ []) (λ v t.
+      ap (λ (c : ℕ × Bool). first (c ∷ [])) (protect-at most x t))
+      ∙ (λ i. first (handleRefusals-same i x (inRange g x) (protected g d′ most x ∷ [])))
 
   -- Calls by name -----------------------------------------------------------------------------------------------------------
 
@@ -159,8 +181,9 @@ module _ (u : Kinds) (g : Geometry) (d d′ : List ℕ) (a : ReadAlike u g d d�
   carries-at : (n : List ℕ) (s : ℕ) → carries g d n s ≡ carries g d′ n s
   unfolding carries
   carries-at n s =
-      Reads.primary-only u g d d′ a s _ _ (λ e. ap (λ (m : List ℕ). same m n) (Reads.name-at u g d d′ a s e))
-      ∙ (λ i. all (primaryIs (Reads.flags u g d d′ a i s) ∷ same (nameOf g d′ s) n ∷ []))
+      two (inUsePrimary g d s) _ _ (λ t. ap (λ (m : List ℕ). same m n)
+      (Reads.name-at u g d d′ a s (Reads.primary-live u g d d′ a s t) (Reads.not-extension u g d d′ a s t)))
+      ∙ (λ i. all (Reads.primaries u g d d′ a i s ∷ same (nameOf g d′ s) n ∷ []))
 
   carries-same : carries g d ≡ carries g d′
   carries-same = λ i n s. carries-at n s i
@@ -194,26 +217,27 @@ module _ (u : Kinds) (g : Geometry) (d d′ : List ℕ) (a : ReadAlike u g d d�
       go [] f z = Tests.not-both refl z
       go (x ∷ xs) f z = f x Members.In.here
 
-  -- codes and level of a primary entry
-  full-at : (s : ℕ) → extension g d s ≡ false → (checking : Bool) (code : ℕ) → full g d s checking code ≡ full g d′ s checking code
+  -- codes and level of a file
+  code-at : (s k : ℕ) → IsFile g d s → 2 ≤ k → k < 0x16 → field g d s k ≡ field g d′ s k
+  code-at s k f l h = Reads.low-at u g d d′ a s k (Reads.file-live u g d d′ a s f) (Reads.is-first u g d d′ a s f) l h
+
+  full-at : (s : ℕ) → IsFile g d s → (checking : Bool) (code : ℕ) → full g d s checking code ≡ full g d′ s checking code
   unfolding full
-  full-at s e checking code =
-      let low = Reads.low-at u g d d′ a s 0x10 e (omega arith) (omega arith) in let high = Reads.low-at u g d d′ a s 0x11 e (omega arith) (omega arith) in
+  full-at s f checking code =
+      let low = code-at s 0x10 f (omega arith) (omega arith) in let high = code-at s 0x11 f (omega arith) (omega arith) in
       λ i. any (not checking ∷ eqb (low i + 256 * high i) (g .noPassword) ∷ eqb code (low i + 256 * high i) ∷ [])
 
-  admits-at : (s : ℕ) → extension g d s ≡ false → (checking : Bool) (code : ℕ) → admits g d s checking code ≡ admits g d′ s checking code
+  admits-at : (s : ℕ) → IsFile g d s → (checking : Bool) (code : ℕ) → admits g d s checking code ≡ admits g d′ s checking code
   unfolding admits
-  admits-at s e checking code =
-      let low = Reads.low-at u g d d′ a s 0x12 e (omega arith) (omega arith) in let high = Reads.low-at u g d d′ a s 0x13 e (omega arith) (omega arith) in
-      λ i. any (full-at s e checking code i ∷ eqb code (low i + 256 * high i) ∷ [])
+  admits-at s f checking code =
+      let low = code-at s 0x12 f (omega arith) (omega arith) in let high = code-at s 0x13 f (omega arith) (omega arith) in
+      λ i. any (full-at s f checking code i ∷ eqb code (low i + 256 * high i) ∷ [])
 
-  opened-at : (s : ℕ) → extension g d s ≡ false → (n : List ℕ) (len : ℕ) (checking : Bool) (code : ℕ)
+  opened-at : (s : ℕ) → IsFile g d s → (n : List ℕ) (len : ℕ) (checking : Bool) (code : ℕ)
       → openedAt g d s n len checking code ≡ openedAt g d′ s n len checking code
-  opened-at s e n len checking code =
-      λ i. record { slot = s; name = n; at = 0; len = len; level = cond (full-at s e checking code i) 0 (Reads.flags u g d d′ a i s % 8) }
-
-  first-of : (n : List ℕ) → missing g d n ≡ false → extension g d (slotOf g d n) ≡ false
-  first-of n e = Reads.is-first u g d d′ a (slotOf g d n) (named-file n e)
+  opened-at s f n len checking code =
+      let e = file-bytes s f .flags in
+      λ i. record { slot = s; name = n; at = 0; len = len; level = cond (full-at s f checking code i) 0 (e i % 8) }
 
   -- 4 before 5: the codes are asked where the name is found
   open-number : (n : List ℕ) (len : ℕ) (checking : Bool) (code : ℕ)
@@ -225,7 +249,7 @@ module _ (u : Kinds) (g : Geometry) (d d′ : List ℕ) (a : ReadAlike u g d d�
       ((12, not (goodLength len)) ∷ badName n ∷ (4, missing g d m) ∷ (5, not (admits g d (slotOf g d m) checking code)) ∷ [])
       ((12, not (goodLength len)) ∷ badName n ∷ (4, missing g d m) ∷ (5, not (admits g d′ (slotOf g d m) checking code)) ∷ []) (λ v.
       ap (λ (z : ℕ). cond (not (goodLength len)) 12 (cond (not (wellFormed m)) 3 z))
-      (unless (missing g d m) 4 _ _ (λ e. ap (λ (b : Bool). cond (not b) 5 0) (admits-at (slotOf g d m) (first-of m e) checking code))))
+      (unless (missing g d m) 4 _ _ (λ e. ap (λ (b : Bool). cond (not b) 5 0) (admits-at (slotOf g d m) (named-file m e) checking code))))
       ∙ (λ i. first (diskRefusals-same i ((12, not (goodLength len)) ∷ badName n ∷ (4, eqb (length (named-same m i)) 0)
       ∷ (5, not (admits g d′ (firstOr 0 (named-same m i)) checking code)) ∷ [])))
 
@@ -243,7 +267,7 @@ module _ (u : Kinds) (g : Geometry) (d d′ : List ℕ) (a : ReadAlike u g d d�
   open-same n len checking code =
       let m = comesIn n .name in let no = first (openRefusals g d n len checking code) in
       ap (λ (h : Handle). record { refusal = nameRefusal g d n no; handle = h })
-      (only (accepted no) noHandle _ _ (λ e. opened-at (slotOf g d m) (first-of m (found-name n len checking code e)) m len checking code))
+      (only (accepted no) noHandle _ _ (λ e. opened-at (slotOf g d m) (named-file m (found-name n len checking code e)) m len checking code))
       ∙ (λ i. let k = open-number n len checking code i in
       record {
         refusal = name-refusal-same i n k;
@@ -263,18 +287,14 @@ module _ (u : Kinds) (g : Geometry) (d d′ : List ℕ) (a : ReadAlike u g d d�
       ((12, not (newInRange f)) ∷ badName n ∷ (5, all (not none ∷ not (admits g d′ (slotOf g d m) checking (f .main)) ∷ []))
       ∷ (8, all (none ∷ eqb (length (freeSlots g d)) 0 ∷ [])) ∷ []) (λ v.
       ap (λ (b : Bool). cond (not (newInRange f)) 12 (cond (not (wellFormed m)) 3 (cond b 5 (cond (all (none ∷ eqb (length (freeSlots g d)) 0 ∷ [])) 8 0))))
-      (asked none _ _ (λ e. ap not (admits-at (slotOf g d m) (first-of m e) checking (f .main)))))
+      (asked none _ _ (λ e. ap not (admits-at (slotOf g d m) (named-file m e) checking (f .main)))))
       ∙ (λ i. let none′ = eqb (length (named-same m i)) 0 in
       first (diskRefusals-same i ((12, not (newInRange f)) ∷ badName n
       ∷ (5, all (not none′ ∷ not (admits g d′ (firstOr 0 (named-same m i)) checking (f .main)) ∷ []))
       ∷ (8, all (none′ ∷ eqb (length (Reads.freeSlots-same u g d d′ a i)) 0 ∷ [])) ∷ [])))
     where
       asked : (b x y : Bool) → (b ≡ false → x ≡ y) → all (not b ∷ x ∷ []) ≡ all (not b ∷ y ∷ [])
-      asked b x y h = two (not b) x y (λ e. h (flip b e))
-        where
-          flip : (c : Bool) → not c ≡ true → c ≡ false
-          flip true e = sym e
-          flip false e = refl
+      asked b x y h = two (not b) x y (λ e. h (Members.no-false (T-not b e)))
 
   created : (n : List ℕ) (f : NewFile) (checking : Bool) → create g d n f checking .0 ≡ create g d′ n f checking .0
   unfolding create
@@ -282,7 +302,7 @@ module _ (u : Kinds) (g : Geometry) (d d′ : List ℕ) (a : ReadAlike u g d d�
       let m = comesIn n .name in let no = first (createRefusals g d n f checking) in let none = missing g d m in
       ap (λ (h : Handle). record { refusal = nameRefusal g d n no; old = accepted no && not none; handle = cond (accepted no) h noHandle })
       (unless none (record { slot = newSlot g d; name = m; at = 0; len = f .len; level = 0 }) _ _ (λ e.
-      opened-at (slotOf g d m) (first-of m e) m (f .len) checking (f .main)))
+      opened-at (slotOf g d m) (named-file m e) m (f .len) checking (f .main)))
       ∙ (λ i. let k = create-number n f checking i in let new = eqb (length (named-same m i)) 0 in
       record {
         refusal = name-refusal-same i n k;
@@ -323,7 +343,7 @@ module _ (u : Kinds) (g : Geometry) (d d′ : List ℕ) (a : ReadAlike u g d d�
       let e = length-append n (f .main % 256 ∷ f .main / 256 ∷ f .worker % 256 ∷ f .worker / 256 ∷ 0 ∷ 0 ∷ replicate 10 0xff) in
       omega (arith, e, l)
 
-  pub create-same : (n : List ℕ) (f : NewFile) (checking : Bool) → AlikeLeft u g (create g d n f checking) (create g d′ n f checking)
+  pub create-same : (n : List ℕ) (f : NewFile) (checking : Bool) → LeftAlike u g (create g d n f checking) (create g d′ n f checking)
   unfolding create
   create-same n f checking = (
     created n f checking,
@@ -341,20 +361,6 @@ module _ (u : Kinds) (g : Geometry) (d d′ : List ℕ) (a : ReadAlike u g d d�
   )
 
   -- Reads -------------------------------------------------------------------------------------------------------------------
-
-  -- what a call by a handle that reads has passed
-  pub fresh-file : (x : Handle) → T (fresh g d x) → IsFile g d (x .slot)
-  unfolding fresh all
-  fresh-file x t = record {
-    slot = Members.and-l (isSlot g d (x .slot)) _ t;
-    primary′ = Members.and-l (Rattle.meaning.specs.Entries.inUsePrimary g d (x .slot)) _ (Members.and-r (isSlot g d (x .slot)) _ t);
-  }
-
-  pub fresh-first : (x : Handle) → T (fresh g d x) → extension g d (x .slot) ≡ false
-  fresh-first x t = Reads.is-first u g d d′ a (x .slot) (fresh-file x t)
-
-  size-of : (x : Handle) → T (fresh g d x) → sizeOf g d (x .slot) ≡ sizeOf g d′ (x .slot)
-  size-of x t = Reads.size-at u g d d′ a (x .slot) (fresh-first x t)
 
   -- 7 before 10: the size is asked of a file
   pub read-number : (x : Handle) (n : ℕ) (b : List ℕ) → first (readRefusals g d x n (length b)) ≡ first (readRefusals g d′ x n (length b))
@@ -394,7 +400,7 @@ module _ (u : Kinds) (g : Geometry) (d d′ : List ℕ) (a : ReadAlike u g d d�
       let r = Members.count-in j i n m in
       let l : j < granuleBytes g * length (owned g d p) = omega (arith, r, Change.filed-at g d c p f .fits) in
       off-byte c k (place g d p j) (apart c p f o _ (Others.place-in g d p j l)))
-      ∙ (λ z. map (λ j. byte d′ (Reads.place-same u g d d′ a z p j)) (count i n))
+      ∙ (λ z. map (λ j. byte d′ (Reads.place-at u g d d′ a p (Reads.sound-chain u g d d′ a c p f) z j)) (count i n))
 
   pub read-buffer : (x : Handle) (n : ℕ) (b : List ℕ) → Apart g d (x .slot) → readOf g d x n b .1 ≡ readOf g d′ x n b .1
   unfolding readOf
@@ -411,7 +417,8 @@ module _ (u : Kinds) (g : Geometry) (d d′ : List ℕ) (a : ReadAlike u g d d�
       ∙ (λ i. cond (accepted (read-number x n b i)) (fetch g d′ (x .slot) (x .at) n ++ drop n b) b)
 
   many-of : (x : Handle) → T (fresh g d x) → sectorCount g d (x .slot) ≡ sectorCount g d′ (x .slot)
-  many-of x t = Reads.count-at u g d d′ a (x .slot) (fresh-first x t)
+  many-of x t =
+      let f = fresh-file x t in Reads.count-at u g d d′ a (x .slot) (Reads.file-live u g d d′ a (x .slot) f) (Reads.is-first u g d d′ a (x .slot) f)
 
   sector-number : (x : Handle) (k : ℕ) → first (sectorRefusals g d x k) ≡ first (sectorRefusals g d′ x k)
   unfolding first
@@ -422,40 +429,50 @@ module _ (u : Kinds) (g : Geometry) (d d′ : List ℕ) (a : ReadAlike u g d d�
       ap (λ (z : ℕ). first (notForReading x ∷ (10, leb z k) ∷ [])) (many-of x t))
       ∙ (λ i. first (handleRefusals-same i x range (notForReading x ∷ (10, leb (sectorCount g d′ (x .slot)) k) ∷ [])))
 
-  -- who was accepted has a handle that is not stale
-  sector-fresh : (x : Handle) (k : ℕ) → accepted (first (sectorRefusals g d x k)) ≡ true → T (fresh g d x)
-  sector-fresh x k e =
+  -- who was accepted has a consistent disk and a handle that is not stale
+  sector-passed : (x : Handle) (k : ℕ) → accepted (first (sectorRefusals g d x k)) ≡ true → Passed.Served g d × T (fresh g d x)
+  sector-passed x k e =
       let p = Passed.disk-passed g d _ (accepts _ e) in
       let p₁ = Passed.passed 12 _ _ (omega arith) (p .1) in
-      Passed.yes-T (fresh g d x) (Passed.passed 7 _ _ (omega arith) (p₁ .1) .0)
+      (p .0, Passed.yes-T (fresh g d x) (Passed.passed 7 _ _ (omega arith) (p₁ .1) .0))
+
+  part : (c : Refusal) (b : Bool) (from from′ n n′ : ℕ) → (b ≡ true → (from ≡ from′) × (n ≡ n′))
+      → _≡_ {A = Part} (record { refusal = c; from = cond b from 0; to = cond b (from + n) 0 })
+      (record { refusal = c; from = cond b from′ 0; to = cond b (from′ + n′) 0 })
+  part c true from from′ n n′ f = let e = f refl in λ i. record { refusal = c; from = e .0 i; to = e .0 i + e .1 i }
+  part c false from from′ n n′ f = refl
 
   pub read-sector : (x : Handle) (k : ℕ) → readSector g d x k ≡ readSector g d′ x k
   unfolding readSector
   read-sector x k =
-      let s = x .slot in let no = first (sectorRefusals g d x k) in let from = place g d s (256 * k) in
-      ap (λ (z : ℕ). record { refusal = refusal g d no; from = cond (accepted no) from 0; to = z })
-      (only (accepted no) 0 _ _ (λ e. let t = sector-fresh x k e in let many = many-of x t in let size = size-of x t in
-      λ i. from + cond (eqb (suc k) (many i)) (size i - 256 * k) 256))
-      ∙ (λ i. let z = sector-number x k i in let from′ = Reads.place-same u g d d′ a i s (256 * k) in
+      let s = x .slot in let no = first (sectorRefusals g d x k) in
+      part (refusal g d no) (accepted no) _ _ _ _ (λ e.
+      let p = sector-passed x k e in let many = many-of x (p .1) in let size = size-of x (p .1) in
+      let f = fresh-file x (p .1) in (
+        ap (λ (F : ℕ → ℕ). F (256 * k)) (Reads.place-at u g d d′ a s (Reads.sound-chain u g d d′ a (p .0 .sound) s f)),
+        λ i. cond (eqb (suc k) (many i)) (size i - 256 * k) 256,
+      ))
+      ∙ (λ i. let z = sector-number x k i in
       record {
         refusal = refusal-same i z;
-        from = cond (accepted z) from′ 0;
-        to = cond (accepted z) (from′ + sectorBytes g d′ s k) 0;
+        from = cond (accepted z) (place g d′ s (256 * k)) 0;
+        to = cond (accepted z) (place g d′ s (256 * k) + sectorBytes g d′ s k) 0;
       })
 
   -- Allot and write ---------------------------------------------------------------------------------------------------------
 
-  lacking-same : lacking g d ≡ lacking g d′
-  lacking-same = λ i s wanted. wanted - length (Reads.owned-same u g d d′ a i s)
+  -- what a file lacks of the granules wanted, on a consistent disk
+  lacking-at : Sound g d → (p : ℕ) → IsFile g d p → (wanted : ℕ) → lacking g d p wanted ≡ lacking g d′ p wanted
+  lacking-at c p f wanted = ap (λ (l : List ℕ). wanted - length l) (Reads.owned-at u g d d′ a p (Reads.sound-chain u g d d′ a c p f))
 
   -- 6 and 9 before 8: the growth is asked of a file that is no system file, where there are granules enough
-  grow-number : (x : Handle) (b : Bool) (k k′ : ℕ) → (T (fresh g d x) → k ≡ k′)
+  grow-number : (x : Handle) (b : Bool) (k k′ : ℕ) → (Passed.Served g d → T (fresh g d x) → k ≡ k′)
       → first (handleRefusals g d x b (protected g d 4 x ∷ cannotGrow g d (x .slot) k))
       ≡ first (handleRefusals g d′ x b (protected g d′ 4 x ∷ cannotGrow g d′ (x .slot) k′))
   unfolding first
   grow-number x b k k′ q =
       let s = x .slot in
-      after-handle g d x b (protected g d 4 x ∷ cannotGrow g d s k) (protected g d 4 x ∷ cannotGrow g d′ s k′) (λ v t.
+      after-handle g d x b (protected g d 4 x ∷ cannotGrow g d s k) (protected g d′ 4 x ∷ cannotGrow g d′ s k′) (λ v t.
       unless (any (ltb 4 (x .level) ∷ system g d s ∷ [])) 6 _ _ (λ z.
       let user = not-T (system g d s) (λ y. Members.false-no z (Members.any-r (ltb 4 (x .level)) (system g d s) y)) in
       ap (λ (n : ℕ). cond (all (noGrowth g d s ∷ ltb 0 k ∷ [])) 11 n)
@@ -464,9 +481,11 @@ module _ (u : Kinds) (g : Geometry) (d d′ : List ℕ) (a : ReadAlike u g d d�
       let k₁ = Places.fits g d (v .fits) in
       ap (λ (c : Bool). cond c 8 0)
       (Growing.both-fail (Growing.both-growth u g s tall k d d′ (v .sound) k₁ (fresh-file x t) user room (both-sound k₁ (v .sound))))))
-      ∙ (λ i. first ((11, all (bit 6 (Reads.ones u g d d′ a i s) ∷ ltb 0 (q t i) ∷ [])) ∷ (9, ltb (length (Reads.freeGranules-same u g d d′ a i)) (q t i))
-      ∷ (8, fails (growth g s (q t i) d′)) ∷ []))))
-      ∙ (λ i. first (handleRefusals-same i x b (protected-same i 4 x ∷ cannotGrow g d′ s k′)))
+      ∙ (let e = file-bytes s (fresh-file x t) .one in
+      λ i. first ((11, all (bit 6 (e i) ∷ ltb 0 (q v t i) ∷ [])) ∷ (9, ltb (length (Reads.freeGranules-same u g d d′ a i)) (q v t i))
+      ∷ (8, fails (growth g s (q v t i) d′)) ∷ [])))
+      ∙ ap (λ (c : ℕ × Bool). first (c ∷ cannotGrow g d′ s k′)) (protect-at 4 x t))
+      ∙ (λ i. first (handleRefusals-same i x b (protected g d′ 4 x ∷ cannotGrow g d′ s k′)))
 
   both-granules : (x : Handle) (k : ℕ) → Passed.Holds g d x → first (cannotGrow g d (x .slot) k) ≡ 0
       → AlikePair u g tall (withGranules g d (x .slot) k) (withGranules g d′ (x .slot) k)
@@ -477,25 +496,29 @@ module _ (u : Kinds) (g : Geometry) (d d′ : List ℕ) (a : ReadAlike u g d d�
       let w = both-sound (h .fits) (h .sound) in
       Growing.both-disk (Growing.both-growth u g (x .slot) tall k d d′ (h .sound) (h .fits) (h .file) (h .user) room w) w
 
-  toAllot-same : (x : Handle) (k : ℕ) → toAllot g d x k ≡ toAllot g d′ x k
-  toAllot-same x k = λ i. lacking-same i (x .slot) (granulesTo g k)
+  toAllot-of : (x : Handle) (k : ℕ) → Passed.Served g d → T (fresh g d x) → toAllot g d x k ≡ toAllot g d′ x k
+  toAllot-of x k v t = lacking-at (v .sound) (x .slot) (fresh-file x t) (granulesTo g k)
 
   allot-number : (x : Handle) (k : ℕ) → first (allotRefusals g d x k) ≡ first (allotRefusals g d′ x k)
-  allot-number x k = grow-number x (all (inRange g x ∷ ltb k (sectorNumbers g) ∷ [])) (toAllot g d x k) (toAllot g d′ x k) (λ t. toAllot-same x k)
+  allot-number x k = grow-number x (all (inRange g x ∷ ltb k (sectorNumbers g) ∷ [])) (toAllot g d x k) (toAllot g d′ x k) (toAllot-of x k)
 
-  pub allot-same : (x : Handle) (k : ℕ) → AlikeLeft u g (allot g d x k) (allot g d′ x k)
+  pub allot-same : (x : Handle) (k : ℕ) → LeftAlike u g (allot g d x k) (allot g d′ x k)
   unfolding allot
   allot-same x k = (
     λ i. record { refusal = refusal-same i (allot-number x k i); handle = x },
     subst (λ (l : List ℕ). ReadAlike u g (allot g d x k .1) l)
-        (λ i. cond (accepted (allot-number x k i)) (withGranules g d′ (x .slot) (toAllot-same x k i)) d′)
+        (λ i. cond (accepted (allot-number x k i)) (withGranules g d′ (x .slot) (toAllot g d′ x k)) d′)
         (left (accepted (first (allotRefusals g d x k))) _ _ (λ e.
         let h = Passed.holds g d x _ 4 (cannotGrow g d (x .slot) (toAllot g d x k)) (accepts _ e) in
-        both-granules x (toAllot g d x k) (h .0) (h .1) .alike)),
+        subst (λ (n : ℕ). ReadAlike u g (withGranules g d (x .slot) (toAllot g d x k)) (withGranules g d′ (x .slot) n))
+        (lacking-at (h .0 .sound) (x .slot) (h .0 .file) (granulesTo g k))
+        (both-granules x (toAllot g d x k) (h .0) (h .1) .alike))),
   )
 
-  toWrite-of : (m : Mode) (x : Handle) (n : ℕ) → T (fresh g d x) → toWrite g d m x n ≡ toWrite g d′ m x n
-  toWrite-of m x n t = λ i. lacking-same i (x .slot) (granulesFor g (sizeAfter m (size-of x t i) (x .at + n)))
+  toWrite-of : (m : Mode) (x : Handle) (n : ℕ) → Passed.Served g d → T (fresh g d x) → toWrite g d m x n ≡ toWrite g d′ m x n
+  toWrite-of m x n v t =
+      lacking-at (v .sound) (x .slot) (fresh-file x t) _
+      ∙ ap (λ (z : ℕ). lacking g d′ (x .slot) (granulesFor g (sizeAfter m z (x .at + n)))) (size-of x t)
 
   write-number : (m : Mode) (x : Handle) (n : ℕ) (b : List ℕ) → first (writeRefusals g d m x n (length b)) ≡ first (writeRefusals g d′ m x n (length b))
   write-number m x n b =
@@ -507,6 +530,19 @@ module _ (u : Kinds) (g : Geometry) (d d′ : List ℕ) (a : ReadAlike u g d d�
         → (place g d p j < 256 * g .start) ⊎ (256 * (g .start + directorySectors g d) ≤ place g d p j)
     not-there j l =
         Places.outside g d (place g d p j) (k .start-at) (Places.dir g d (c .dir)) (λ i. Change.filed-at g d c p f .off us _ (Others.place-in g d p j l) i)
+
+    -- no byte of the file is one of its entry
+    kept : (old at : ℕ) (r : List ℕ) → at + length r ≤ granuleBytes g * length (owned g d p)
+        → field g (store (place g d p) (store (place g d p) d old (replicate (at - old) 0)) at r) p 0 ≡ field g d p 0
+    unfolding field
+    kept old at r end =
+        store-other (place g d p) r _ at (entryAt g p + 0) (λ j h l. away j (not-there j (omega arith)))
+        ∙ store-other (place g d p) (replicate (at - old) 0) d old (entryAt g p + 0)
+        (λ j h l. away j (not-there j (omega (arith, rw (length-replicate {A = ℕ} (at - old) 0) at l))))
+      where
+        away : (j : ℕ) → (place g d p j < 256 * g .start) ⊎ (256 * (g .start + directorySectors g d) ≤ place g d p j) → entryAt g p + 0 ≢ place g d p j
+        away j (inl q) = omega arith
+        away j (inr q) = let z = Places.slot g d p (f .slot) in omega (arith, z .low, z .sector)
 
     both-write : (old at size : ℕ) (r : List ℕ) → at + length r ≤ granuleBytes g * length (owned g d p)
         → AlikePair u g m (withSize g (store (place g d p) (store (place g d p) d old (replicate (at - old) 0)) at r) p size)
@@ -525,77 +561,119 @@ module _ (u : Kinds) (g : Geometry) (d d′ : List ℕ) (a : ReadAlike u g d d�
         let low : (e e′ : List ℕ) (j v : ℕ) → 1 ≤ j → j < 0x16 → AlikePair u g m e e′ → AlikePair u g m (setField g e p j v) (setField g e′ p j v) =
         λ e e′ j v l h z. Stores.both-field u g m e e′ p j v t (omega arith) (omega arith) (omega arith) (λ i q. omega arith) z in
         subst (λ (G : ℕ → ℕ). AlikePair u g m (withSize g d₃ p size) (withSize g (store G (store G d′ old (replicate (at - old) 0)) at r) p size))
-        (λ i. Reads.place-same u g d d′ a i p)
+        (Reads.place-at u g d d′ a p (Reads.sound-chain u g d d′ a c p f))
         (subst (λ (y : ℕ). AlikePair u g m (withSize g d₃ p size)
         (setField g (setField g (setField g (setField g d₃′ p 3 (endByteFor size)) p 0x14 (sectorsFor size % 256)) p 0x15 (sectorsFor size / 256))
         p 1 (withBit 5 y)))
-        (λ i. Reads.ones u g d₃ d₃′ (w₃ .alike) i p)
+        (Reads.bytes-at u g d₃ d₃′ (w₃ .alike) p
+        (Reads.live u g d₃ d₃′ (w₃ .alike) p (subst (λ (y : ℕ). T (bit 4 y)) (sym (kept old at r end)) (Facts.file-in-use g d p f))) .one)
         (low _ _ 1 _ (omega arith) (omega arith) (low _ _ 0x15 _ (omega arith) (omega arith) (low _ _ 0x14 _ (omega arith) (omega arith)
         (low d₃ d₃′ 3 _ (omega arith) (omega arith) w₃)))))
 
   -- Trim and kill -----------------------------------------------------------------------------------------------------------
 
-  surplus-at : (p : ℕ) → IsFile g d p → surplus g d p ≡ surplus g d′ p
-  surplus-at p f =
-      let size = Reads.size-at u g d d′ a p (Reads.is-first u g d d′ a p f) in λ i. length (Reads.owned-same u g d d′ a i p) - granulesFor g (size i)
+  surplus-at : Sound g d → (p : ℕ) → IsFile g d p → surplus g d p ≡ surplus g d′ p
+  surplus-at c p f =
+      let size = Reads.file-size u g d d′ a p f in let own = Reads.owned-at u g d d′ a p (Reads.sound-chain u g d d′ a c p f) in
+      λ i. length (own i) - granulesFor g (size i)
 
   trim-number : (x : Handle) → first (trimRefusals g d x) ≡ first (trimRefusals g d′ x)
-  trim-number x = λ i. first (handleRefusals-same i x (inRange g x) (protected-same i 4 x ∷ []))
+  trim-number x = guard-number 4 x
 
-  pub trim-same : (x : Handle) → AlikeLeft u g (trim g d x) (trim g d′ x)
+  trims-both : (x : Handle) → (accepted (first (trimRefusals g d x)) && not (keepsSpace g d (x .slot)))
+      ≡ (accepted (first (trimRefusals g d′ x)) && not (keepsSpace g d′ (x .slot)))
+  trims-both x =
+      Reads.and-only (accepted (first (trimRefusals g d x))) _ _ (λ e.
+      ap (λ (y : ℕ). not (bit 7 y)) (file-bytes (x .slot) (Passed.holds g d x _ 4 [] (accepts _ e) .0 .file) .one))
+      ∙ (λ i. accepted (trim-number x i) && not (keepsSpace g d′ (x .slot)))
+
+  pub trim-same : (x : Handle) → LeftAlike u g (trim g d x) (trim g d′ x)
   unfolding trim
   trim-same x = (
     λ i. record { refusal = refusal-same i (trim-number x i); handle = x },
     subst (λ (l : List ℕ). ReadAlike u g (trim g d x .1) l)
-        (λ i. cond (accepted (trim-number x i) && not (bit 7 (Reads.ones u g d d′ a i (x .slot)))) (times (surplus g d′ (x .slot)) (dropOne g (x .slot)) d′) d′)
-        (left (accepted (first (trimRefusals g d x)) && not (bit 7 (field g d (x .slot) 1))) _ _ (λ e.
+        (λ i. cond (trims-both x i) (times (surplus g d′ (x .slot)) (dropOne g (x .slot)) d′) d′)
+        (left (accepted (first (trimRefusals g d x)) && not (keepsSpace g d (x .slot))) _ _ (λ e.
         let h = Passed.holds g d x _ 4 [] (accepts _ (Tests.and-l (accepted (first (trimRefusals g d x))) _ e)) .0 in
         let fit = Change.filed-at g d (h .sound) (x .slot) (h .file) .fits in
         subst (λ (k : ℕ). ReadAlike u g (times (surplus g d (x .slot)) (dropOne g (x .slot)) d) (times k (dropOne g (x .slot)) d′))
-        (surplus-at (x .slot) (h .file))
+        (surplus-at (h .sound) (x .slot) (h .file))
         (Growing.both-times u g (x .slot) tall (surplus g d (x .slot)) d d′ (h .sound) (h .fits) (h .file) (h .user)
         (Sizes.surplus-fits (Sizes.bytes-pos g) _ _ fit) (both-sound (h .fits) (h .sound)) .alike))),
   )
 
   kill-number : (x : Handle) → first (killRefusals g d x) ≡ first (killRefusals g d′ x)
-  kill-number x = λ i. first (handleRefusals-same i x (inRange g x) (protected-same i 1 x ∷ []))
+  kill-number x = guard-number 1 x
 
   -- one entry's bit 4 and HIT byte, for kill and for bring back: the flags become F of what they were, bit 7 the same
-  both-flags : (F : ℕ → ℕ) → ((x : ℕ) → bit 7 (F x) ≡ bit 7 x) → (m v : ℕ) (xs e e′ : List ℕ) → ((s : ℕ) → In s xs → Slot m s × ((s < 256) × (s ≢ 0x1f)))
-      → AlikePair u g m e e′
-      → AlikePair u g m (through (λ l s. set (setField g l s 0 (F (field g l s 0))) (hitAt g s) v) e xs)
-      (through (λ l s. set (setField g l s 0 (F (field g l s 0))) (hitAt g s) v) e′ xs)
-  both-flags F q m v xs e e′ h w =
-      Stores.both-through u g m _ xs e e′ (λ l l′ s j z.
-      Stores.both-hit u g m _ _ s v (h s j .1)
-      (subst (λ (y : ℕ). AlikePair u g m (setField g l s 0 (F (field g l s 0))) (setField g l′ s 0 (F y)))
-      (λ i. Reads.flags u g l l′ (z .alike) i s) (Stores.both-flag u g m l l′ s (F (field g l s 0)) (h s j .0) (inl (q (field g l s 0))) z))) w
+  module _ (F : ℕ → ℕ) (seven : (x : ℕ) → bit 7 (F x) ≡ bit 7 x) (four : (x : ℕ) → (bit 4 (F x) ≡ false) ⊎ (u .dead ≡ false)) (m v : ℕ) where
+    abbrev flagged : List ℕ → ℕ → List ℕ
+    flagged l s = set (setField g l s 0 (F (field g l s 0))) (hitAt g s) v
+
+    -- the flags of another slot stay
+    flags-stay : (l : List ℕ) (s y : ℕ) → (s < 256) × (y < 256) → y ≢ s → field g (flagged l s) y 0 ≡ field g l y 0
+    unfolding field setField
+    flags-stay l s y h n =
+        getD-set-other (set l (entryAt g s + 0) (F (byte l (entryAt g s + 0)))) (hitAt g s) (entryAt g y + 0) v 0 (omega (arith, h .0))
+        ∙ getD-set-other l (entryAt g s + 0) (entryAt g y + 0) (F (byte l (entryAt g s + 0))) 0 (λ q. n (one-slot (g .start) y s (h .1) (h .0) (omega arith)))
+
+    both-flags : (xs e e′ : List ℕ) → Members.Distinct xs → ((s : ℕ) → In s xs → Slot m s × ((s < 256) × (s ≢ 0x1f)))
+        → ((s : ℕ) → In s xs → (u .dead && not (inUse g e s)) ≡ false) → AlikePair u g m e e′
+        → AlikePair u g m (through flagged e xs) (through flagged e′ xs)
+    both-flags [] e e′ q h z w = w
+    both-flags (s ∷ xs) e e′ (Members.Distinct.fresh n q) h z w =
+        both-flags xs (flagged e s) (flagged e′ s) q (λ y i. h y (Members.In.there i))
+        (λ y i. ap (λ (x : ℕ). u .dead && not (bit 4 x))
+        (flags-stay e s y (h s Members.In.here .1 .0, h y (Members.In.there i) .1 .0) (λ r. n (subst (λ (x : ℕ). In x xs) r i))) ∙ z y (Members.In.there i))
+        (Stores.both-hit u g m _ _ s v (h s Members.In.here .1)
+        (subst (λ (y : ℕ). AlikePair u g m (setField g e s 0 (F (field g e s 0))) (setField g e′ s 0 (F y)))
+        (Reads.bytes-at u g e e′ (w .alike) s (z s Members.In.here) .flags)
+        (Stores.both-flag u g m e e′ s (F (field g e s 0)) (h s Members.In.here .0) (inl (seven (field g e s 0))) (four (field g e s 0)) w)))
 
   bit-seven : (v : ℕ) → v < 2 → (x : ℕ) → bit 7 (putDigit x 4 v) ≡ bit 7 x
   bit-seven v h x = ap (λ (y : ℕ). eqb y 1) (LawsBits.digit-other x 4 7 v h (omega arith))
 
-  pub kill-same : (x : Handle) → AlikeLeft u g (kill g d x) (kill g d′ x)
-  unfolding kill killEntry
+  bit-four : (x : ℕ) → bit 4 (withoutBit 4 x) ≡ false
+  bit-four x = ap (λ (y : ℕ). eqb y 1) (LawsBits.digit-same x 4 0 (omega arith))
+
+  -- granules of the GAT leave the flags
+  freed-flags : (v : ℕ) (ns l : List ℕ) (s : ℕ) → ((n : ℕ) → In n ns → n < granules g) → Places.Fits g d
+      → field g (through (λ l n. Places.marked g v l n) l ns) s 0 ≡ field g l s 0
+  unfolding field
+  freed-flags v [] l s f k = refl
+  freed-flags v (n ∷ ns) l s f k =
+      freed-flags v ns (Places.marked g v l n) s (λ x i. f x (Members.In.there i)) k
+      ∙ getD-set-other l _ (entryAt g s + 0) _ 0 (let b = Places.block-lt g d n k (f n Members.In.here) in omega (arith, b, k .blocks-hi))
+
+  pub kill-same : (x : Handle) → LeftAlike u g (kill g d x) (kill g d′ x)
+  unfolding kill killEntry freeGranule
   kill-same x = (
     λ i. record { refusal = refusal-same i (kill-number x i); handle = x },
     subst (λ (l : List ℕ). ReadAlike u g (kill g d x .1) l)
-        (λ i. cond (accepted (kill-number x i))
-        (through (killEntry g) (through (freeGranule g) d′ (Reads.owned-same u g d d′ a i (x .slot))) (Reads.chain-same u g d d′ a i (x .slot))) d′)
+        (λ i. cond (accepted (kill-number x i)) (killed g d′ (x .slot)) d′)
         (left (accepted (first (killRefusals g d x))) _ _ (λ e.
         let p = x .slot in
         let h = Passed.holds g d x _ 1 [] (accepts _ e) .0 in
         let w = both-sound (h .fits) (h .sound) in
-        both-flags (withoutBit 4) (bit-seven 0 (omega arith)) tall 0 (chain g d p) _ _
+        let chains = Reads.sound-chain u g d d′ a (h .sound) p (h .file) in
+        let own = Reads.owned-at u g d d′ a p chains in let ch = Reads.chain-at u g d d′ a p chains in
+        let lt : (n : ℕ) → In n (owned g d p) → n < granules g = λ n i. Change.owned-lt g d (h .sound) p n (h .file) i in
+        subst (λ (l : List ℕ). ReadAlike u g (killed g d p) l)
+        (λ i. through (killEntry g) (through (freeGranule g) d′ (own i)) (ch i))
+        (both-flags (withoutBit 4) (bit-seven 0 (omega arith)) (λ y. inl (bit-four y)) tall 0 (chain g d p) _ _ (h .sound .once p (h .file))
         (λ s i. let t = slot-of s (Change.members g d (h .sound) p s (h .file) i .slot) in (t, Stores.not-count u g tall d d′ s w t))
-        (Stores.both-through u g tall (freeGranule g) (owned g d p) d d′
-        (λ l l′ n i z. Stores.both-free u g tall l l′ n (Change.owned-lt g d (h .sound) p n (h .file) i) z) w) .alike)),
+        (λ s i. ap (λ (y : ℕ). u .dead && not (bit 4 y)) (freed-flags 0 (owned g d p) d s lt (h .fits)) ∙ chains s i)
+        (Stores.both-through u g tall (freeGranule g) (owned g d p) d d′ (λ l l′ n i z. Stores.both-free u g tall l l′ n (lt n i) z) w) .alike))),
   )
 
   -- Listing, counts, free space -----------------------------------------------------------------------------------------------
 
   listed-same : listed g d ≡ listed g d′
   unfolding listed shown
-  listed-same = λ i. keep (λ p. not (bit 6 (Reads.flags u g d d′ a i p))) (Reads.files-same u g d d′ a i)
+  listed-same =
+      Members.keep-eq (λ p. not (system g d p)) (λ p. not (system g d′ p)) (files g d)
+      (λ p j. ap (λ (y : ℕ). not (bit 6 y)) (file-bytes p (Facts.files-in g d p j) .flags))
+      ∙ (λ i. keep (λ p. not (system g d′ p)) (Reads.files-same u g d d′ a i))
 
   listed-files : (k p : ℕ) → In p (drop k (listed g d)) → IsFile g d p
   unfolding listed
@@ -606,18 +684,20 @@ module _ (u : Kinds) (g : Geometry) (d d′ : List ℕ) (a : ReadAlike u g d d�
       dropped (suc n) [] j = j
       dropped (suc n) (y ∷ xs) j = Members.In.there (dropped n xs j)
 
-  tellFirst-same : (ps : List ℕ) → ((p : ℕ) → In p ps → IsFile g d p) → tellFirst g d ps ≡ tellFirst g d′ ps
+  tellFirst-same : Sound g d → (ps : List ℕ) → ((p : ℕ) → In p ps → IsFile g d p) → tellFirst g d ps ≡ tellFirst g d′ ps
   unfolding tellFirst
-  tellFirst-same [] f = refl
-  tellFirst-same (p ∷ ps) f =
-      let e = Reads.is-first u g d d′ a p (f p Members.In.here) in
-      let name = Reads.name-at u g d d′ a p e in let size = Reads.size-at u g d d′ a p e in
-      λ i. record { refusal = unplaced 0; more = true; name = name i; size = size i; granules = length (Reads.owned-same u g d d′ a i p) }
+  tellFirst-same c [] f = refl
+  tellFirst-same c (p ∷ ps) f =
+      let h = f p Members.In.here in
+      let name = Reads.file-name u g d d′ a p h in let size = Reads.file-size u g d d′ a p h in
+      let own = Reads.owned-at u g d d′ a p (Reads.sound-chain u g d d′ a c p h) in
+      λ i. record { refusal = unplaced 0; more = true; name = name i; size = size i; granules = length (own i) }
 
   pub list-same : (n : ℕ) → Listing.list g d n ≡ Listing.list g d′ n
   unfolding Listing.list
   list-same n =
-      ap (λ (x : Listed). cond (accepted (check g d .number)) x (noFile (check g d))) (tellFirst-same (drop n (listed g d)) (listed-files n))
+      only (accepted (check g d .number)) (noFile (check g d)) _ _ (λ e.
+      tellFirst-same (Passed.check-passed g d (accepts _ e) .sound) (drop n (listed g d)) (listed-files n))
       ∙ (λ i. let c = Reads.check-same u g d d′ a i in cond (accepted (c .number)) (tellFirst g d′ (drop n (listed-same i))) (noFile c))
 
   pub counts-same : Listing.counts g d ≡ Listing.counts g d′
@@ -642,23 +722,19 @@ module _ (u : Kinds) (g : Geometry) (d d′ : List ℕ) (a : ReadAlike u g d d�
 
   -- Bring back --------------------------------------------------------------------------------------------------------------
 
-  -- what is asked of a name and of a size is asked of a primary entry
-  whole-at : (s : ℕ) → whole g d s ≡ whole g d′ s
+  -- where dead entries are the same: what is asked of a name and of a size is asked of a primary entry
+  whole-at : u .dead ≡ false → (s : ℕ) → whole g d s ≡ whole g d′ s
   unfolding whole all
-  whole-at s =
+  whole-at z s =
+      let v = Reads.live-any u g d d′ a z in
+      let ch = Reads.chain-at u g d d′ a s (λ x i. v x) in let own = Reads.owned-at u g d d′ a s (λ x i. v x) in
+      let flags = Reads.bytes-at u g d d′ a s (v s) .flags in
       Reads.and-only (not (extension g d s)) _ _ (λ e.
-      let x = flip (extension g d s) e in
-      let name = Reads.nameHolds-at u g d d′ a s x in let size = Reads.sizeHolds-at u g d d′ a s x in
-      λ i. all (name i
-      ∷ every (λ y. all (Reads.pairsHold-same u g d d′ a i y ∷ Reads.linkHoldsBy-same u g d d′ a i 0x80 y ∷ Reads.runsHold-same u g d d′ a i y ∷ []))
-      (Reads.chain-same u g d d′ a i s)
-      ∷ distinct (Reads.chain-same u g d d′ a i s) ∷ distinct (Reads.owned-same u g d d′ a i s) ∷ size i ∷ []))
-      ∙ (λ i. not (bit 7 (Reads.flags u g d d′ a i s)) && all (nameHolds g d′ s ∷ every (killedEntryHolds g d′) (chain g d′ s)
+      let x : extension g d s ≡ false = Members.no-false (T-not (extension g d s) (Members.true-T {b = not (extension g d s)} e)) in
+      let name = Reads.nameHolds-at u g d d′ a s (v s) x in let size = Reads.sizeHolds-at u g d d′ a s (λ x i. v x) (v s) x in
+      λ i. all (name i ∷ every (Reads.killed-at u g d d′ a z i) (ch i) ∷ distinct (ch i) ∷ distinct (own i) ∷ size i ∷ []))
+      ∙ (λ i. not (bit 7 (flags i)) && all (nameHolds g d′ s ∷ every (killedEntryHolds g d′) (chain g d′ s)
       ∷ distinct (chain g d′ s) ∷ distinct (owned g d′ s) ∷ sizeHolds g d′ s ∷ []))
-    where
-      flip : (c : Bool) → not c ≡ true → c ≡ false
-      flip true e = sym e
-      flip false e = refl
 
   whole-first : (s : ℕ) → T (whole g d s) → extension g d s ≡ false
   whole-first s t = Members.no-false (T-not (extension g d s) (LawsBack.whole-says g d s t .first))
@@ -683,36 +759,39 @@ module _ (u : Kinds) (g : Geometry) (d d′ : List ℕ) (a : ReadAlike u g d d�
       go (Entry.Pred.after z j m l) = at z m l (LawsBack.whole-says g d s u .entries z (Members.front-in s i j) .linked)
 
   -- 18 before 19 and 20: the name and the GAT are asked where the file is whole
-  back-number : (s : ℕ) → first (bringBackRefusals g d s) ≡ first (bringBackRefusals g d′ s)
+  back-number : u .dead ≡ false → (s : ℕ) → first (bringBackRefusals g d s) ≡ first (bringBackRefusals g d′ s)
   unfolding first
-  back-number s =
+  back-number z s =
+      let v = Reads.live-any u g d d′ a z in
+      let own = Reads.owned-at u g d d′ a s (λ x i. v x) in let flags = Reads.bytes-at u g d d′ a s (v s) .flags in
       after-disk g d
       ((12, not (isSlot g d s)) ∷ (17, bit 4 (field g d s 0)) ∷ (6, bit 6 (field g d s 0)) ∷ (18, not (whole g d s))
       ∷ (19, not (missing g d (nameOf g d s))) ∷ (20, some (taken g d) (owned g d s)) ∷ [])
       ((12, not (isSlot g d s)) ∷ (17, bit 4 (field g d s 0)) ∷ (6, bit 6 (field g d s 0)) ∷ (18, not (whole g d s))
-      ∷ (19, not (missing g d (nameOf g d′ s))) ∷ (20, some (taken g d′) (owned g d s)) ∷ []) (λ v.
-      ap (λ (z : ℕ). cond (not (isSlot g d s)) 12 (cond (bit 4 (field g d s 0)) 17 (cond (bit 6 (field g d s 0)) 6 z)))
+      ∷ (19, not (missing g d (nameOf g d′ s))) ∷ (20, some (taken g d′) (owned g d s)) ∷ []) (λ y.
+      ap (λ (n : ℕ). cond (not (isSlot g d s)) 12 (cond (bit 4 (field g d s 0)) 17 (cond (bit 6 (field g d s 0)) 6 n)))
       (unless (not (whole g d s)) 18 _ _ (λ e.
       let t = held (whole g d s) e in
       let bits = Reads.some-eq (taken g d) (taken g d′) (owned g d s) (λ n i. a .gat n (whole-granule s n t i)) in
-      let name = Reads.name-at u g d d′ a s (whole-first s t) in
+      let name = Reads.name-at u g d d′ a s (v s) (whole-first s t) in
       λ i. cond (not (missing g d (name i))) 19 (cond (bits i) 20 0))))
-      ∙ (λ i. first (diskRefusals-same i ((12, not (Reads.isSlot-same u g d d′ a i s)) ∷ (17, bit 4 (Reads.flags u g d d′ a i s))
-      ∷ (6, bit 6 (Reads.flags u g d d′ a i s)) ∷ (18, not (whole-at s i)) ∷ (19, not (eqb (length (named-same (nameOf g d′ s) i)) 0))
-      ∷ (20, some (taken g d′) (Reads.owned-same u g d d′ a i s)) ∷ [])))
+      ∙ (λ i. first (diskRefusals-same i ((12, not (Reads.isSlot-same u g d d′ a i s)) ∷ (17, bit 4 (flags i))
+      ∷ (6, bit 6 (flags i)) ∷ (18, not (whole-at z s i)) ∷ (19, not (eqb (length (named-same (nameOf g d′ s) i)) 0))
+      ∷ (20, some (taken g d′) (own i)) ∷ [])))
 
-  pub back-same : (s : ℕ) → AlikeLeft u g (bringBack g d s) (bringBack g d′ s)
-  unfolding bringBack backEntry
-  back-same s = (
-    λ i. let no = back-number s i in
+  pub back-same : u .dead ≡ false → (s : ℕ) → LeftAlike u g (bringBack g d s) (bringBack g d′ s)
+  unfolding bringBack backEntry takeGranule
+  back-same z s = (
+    (let own = Reads.owned-at u g d d′ a s (λ x i. Reads.live-any u g d d′ a z x) in
+        let ch = Reads.chain-at u g d d′ a s (λ x i. Reads.live-any u g d d′ a z x) in
+        λ i. let no = back-number z s i in
         record {
           refusal = refusal-same i no;
-          slots = cond (accepted no) (length (Reads.chain-same u g d d′ a i s)) 0;
-          granules = cond (accepted no) (length (Reads.owned-same u g d d′ a i s)) 0;
-        },
+          slots = cond (accepted no) (length (ch i)) 0;
+          granules = cond (accepted no) (length (own i)) 0;
+        }),
     subst (λ (l : List ℕ). ReadAlike u g (bringBack g d s .1) l)
-        (λ i. cond (accepted (back-number s i))
-        (through (backEntry g (hash (nameOf g d′ s))) (through (takeGranule g) d′ (Reads.owned-same u g d d′ a i s)) (Reads.chain-same u g d d′ a i s)) d′)
+        (λ i. cond (accepted (back-number z s i)) (broughtBack g d′ s) d′)
         (left (accepted (first (bringBackRefusals g d s))) _ _ (λ e.
         let p = Passed.disk-passed g d _ (accepts _ e) in
         let p₁ = Passed.passed 12 _ _ (omega arith) (p .1) in
@@ -720,14 +799,18 @@ module _ (u : Kinds) (g : Geometry) (d d′ : List ℕ) (a : ReadAlike u g d d�
         let p₃ = Passed.passed 6 _ _ (omega arith) (p₂ .1) in
         let p₄ = Passed.passed 18 _ _ (omega arith) (p₃ .1) in
         let t = Passed.yes-T (isSlot g d s) (p₁ .0) in
-        let v = Passed.yes-T (whole g d s) (p₄ .0) in
+        let y = Passed.yes-T (whole g d s) (p₄ .0) in
         let w = both-sound (Places.fits g d (p .0 .fits)) (p .0 .sound) in
-        subst (λ (n : List ℕ). ReadAlike u g (broughtBack g d s) (through (backEntry g (hash n)) (through (takeGranule g) d′ (owned g d s)) (chain g d s)))
-        (Reads.name-at u g d d′ a s (whole-first s v))
-        (both-flags (withBit 4) (bit-seven 1 (omega arith)) tall (hash (nameOf g d s)) (chain g d s) _ _
-        (λ x i. let y = slot-of x (whole-slot s x t v i) in (y, Stores.not-count u g tall d d′ x w y))
+        let v = Reads.live-any u g d d′ a z in
+        let own = Reads.owned-at u g d d′ a s (λ x i. v x) in let ch = Reads.chain-at u g d d′ a s (λ x i. v x) in
+        let name = Reads.name-at u g d d′ a s (v s) (whole-first s y) in
+        subst (λ (l : List ℕ). ReadAlike u g (broughtBack g d s) l)
+        (λ i. through (backEntry g (hash (name i))) (through (takeGranule g) d′ (own i)) (ch i))
+        (both-flags (withBit 4) (bit-seven 1 (omega arith)) (λ x. inr z) tall (hash (nameOf g d s)) (chain g d s) _ _ (LawsBack.whole-says g d s y .once)
+        (λ x i. let q = slot-of x (whole-slot s x t y i) in (q, Stores.not-count u g tall d d′ x w q))
+        (λ x i. ap (λ (b : Bool). b && not (inUse g (through (takeGranule g) d (owned g d s)) x)) z)
         (Stores.both-through u g tall (takeGranule g) (owned g d s) d d′
-        (λ l l′ n i z. Stores.both-take u g tall l l′ n (whole-granule s n v i) z) w) .alike))),
+        (λ l l′ n i q. Stores.both-take u g tall l l′ n (whole-granule s n y i) q) w) .alike))),
   )
 
 -- Write ---------------------------------------------------------------------------------------------------------------------------
@@ -754,16 +837,17 @@ module _ (u : Kinds) (g : Geometry) (d d′ : List ℕ) (a : ReadAlike u g d d�
       let fit : size ≤ granuleBytes g * length (owned g (withGranules g d s k) s) = Sizes.round-fits (Sizes.bytes-pos g) size _ (omega (arith, own)) in
       let end = Rewrite.after-end m (sizeOf g d s) (x .at + n) in
       let short : length (take n b) ≤ n = le-take n b in
-      let old = Reads.size-at u g d d′ a s (Reads.is-first u g d d′ a s (h .0 .file)) in
+      let old = Reads.file-size u g d d′ a s (h .0 .file) in
+      let more = lacking-at u g d d′ a (h .0 .sound) s (h .0 .file) _ ∙ ap (λ (z : ℕ). lacking g d′ s (granulesFor g (sizeAfter m z (x .at + n)))) old in
       subst (ReadAlike u g (written m x n b (sizeOf g d s) (withGranules g d s k)))
-      (λ i. written m x n b (old i) (withGranules g d′ s (lacking-same u g d d′ a i s (granulesFor g (sizeAfter m (old i) (x .at + n))))))
+      (λ i. written m x n b (old i) (withGranules g d′ s (more i)))
       (both-write u g _ _ (w .alike) s (aboveTen g d) (y .kept .sound) (y .kept .fits) (y .kept .file) (y .kept .user) w (sizeOf g d s) (x .at) size (take n b)
       (omega (arith, fit, end, short)) .alike)
     where
       le-take : (n : ℕ) (b : List ℕ) → length (take n b) ≤ n
       le-take n b = let l = length-take n b in omega arith
 
-  pub write-same : (m : Mode) (x : Handle) (n : ℕ) (b : List ℕ) → AlikeLeft u g (writeOf g d m x n b) (writeOf g d′ m x n b)
+  pub write-same : (m : Mode) (x : Handle) (n : ℕ) (b : List ℕ) → LeftAlike u g (writeOf g d m x n b) (writeOf g d′ m x n b)
   unfolding writeOf
   write-same m x n b = (
     λ i. let no = write-number u g d d′ a m x n b i in

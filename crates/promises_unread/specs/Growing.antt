@@ -94,25 +94,31 @@ module _ (u : Kinds) (g : Geometry) (p m : ℕ) where
       by true z = BothGrown.both (both-run d d′ e r n t (ltb→lt r 4 (Members.true-T z)) h w)
       by false z = both-extended slots d d′ e n v t f h w
 
-  tail-same : (d d′ : List ℕ) → ReadAlike u g d d′ → tail g p d ≡ tail g p d′
-  tail-same d d′ a = λ i. lastOr p (Reads.chain-same u g d d′ a i p)
+  module _ (d d′ : List ℕ) (a : ReadAlike u g d d′) (c : Sound g d) (f : IsFile g d p) where
+    tail-live : Reads.Live u g d d′ a (tail g p d)
+    tail-live = Reads.sound-chain u g d d′ a c p f (tail g p d) (Change.tail-in g d c p f)
 
-  tail-runs : (d d′ : List ℕ) → ReadAlike u g d d′ → runs g d (tail g p d) ≡ runs g d′ (tail g p d′)
-  tail-runs d d′ a = λ i. Reads.runs-same u g d d′ a i (tail-same d d′ a i)
+    tail-same : tail g p d ≡ tail g p d′
+    tail-same = ap (lastOr p) (Reads.chain-at u g d d′ a p (Reads.sound-chain u g d d′ a c p f))
+
+    tail-runs : runs g d (tail g p d) ≡ runs g d′ (tail g p d′)
+    tail-runs = Reads.runs-at u g d d′ a (tail g p d) tail-live ∙ ap (runs g d′) tail-same
 
   -- where there is a run
-  module _ (d d′ : List ℕ) (a : ReadAlike u g d d′) (some : 1 ≤ runs g d (tail g p d)) where
+  module _ (d d′ : List ℕ) (a : ReadAlike u g d d′) (c : Sound g d) (f : IsFile g d p) (some : 1 ≤ runs g d (tail g p d)) where
     last-same : runs g d (tail g p d) - 1 ≡ runs g d′ (tail g p d′) - 1
-    last-same = λ i. tail-runs d d′ a i - 1
+    last-same = λ i. tail-runs d d′ a c f i - 1
 
     -- the bytes of the last run's pair
     pair-same : pairByte g d (tail g p d) (runs g d (tail g p d) - 1) ≡ pairByte g d′ (tail g p d′) (runs g d′ (tail g p d′) - 1)
-    pair-same = Reads.run-at u g d d′ a (tail g p d) (runs g d (tail g p d) - 1) (omega arith) ∙ (λ i. pairByte g d′ (tail-same d d′ a i) (last-same i))
+    pair-same =
+        Reads.run-at u g d d′ a (tail g p d) (runs g d (tail g p d) - 1) (tail-live d d′ a c f) (omega arith) ∙
+        (λ i. pairByte g d′ (tail-same d d′ a c f i) (last-same i))
 
     block-same : block g d (tail g p d) (runs g d (tail g p d) - 1) ≡ block g d′ (tail g p d′) (runs g d′ (tail g p d′) - 1)
     block-same =
-        Reads.block-at u g d d′ a (tail g p d) (runs g d (tail g p d) - 1) (omega (arith, Entry.runs-le g d (tail g p d)))
-        ∙ (λ i. block g d′ (tail-same d d′ a i) (last-same i))
+        Reads.block-at u g d d′ a (tail g p d) (runs g d (tail g p d) - 1) (tail-live d d′ a c f) (omega (arith, Entry.runs-le g d (tail g p d)))
+        ∙ (λ i. block g d′ (tail-same d d′ a c f i) (last-same i))
 
     pub after-same : after g p d ≡ after g p d′
     after-same = λ i. pairStart (g .units) (block-same i) (pair-same i) + pairLength (pair-same i)
@@ -124,7 +130,7 @@ module _ (u : Kinds) (g : Geometry) (p m : ℕ) where
         ap (λ (b : Bool). leb 1 (runs g d (tail g p d)) && b)
         (Reads.and-only (ltb (after g p d) (granules g)) _ _ (λ e.
         λ i. not (a .gat (after g p d) (ltb→lt _ _ (Members.true-T e)) i) && (ltb (pairLength (pair-same 0)) 32 && true)))
-        ∙ (λ i. leb 1 (tail-runs d d′ a i)
+        ∙ (λ i. leb 1 (tail-runs d d′ a c f i)
         && (ltb (after-same i) (granules g) && (not (taken g d′ (after-same i)) && (ltb (pairLength (pair-same i)) 32 && true))))
 
   longer-below : (d : List ℕ) → T (lengthens g p d) → after g p d < granules g
@@ -136,9 +142,9 @@ module _ (u : Kinds) (g : Geometry) (p m : ℕ) where
   unfolding lengthens all
   no-longer d e = rw e
 
-  both-at : (n : ℕ) (d d′ : List ℕ) → Slot m p → Slot m (tail g p d) → n < granules g → AlikePair u g m d d′
+  both-at : (n : ℕ) (d d′ : List ℕ) → Sound g d → IsFile g d p → Slot m p → Slot m (tail g p d) → n < granules g → AlikePair u g m d d′
       → BothGrown u g m (takeAt g p n d) (takeAt g p n d′)
-  both-at n d d′ v t h w = go (decLt 0 (runs g d (tail g p d)))
+  both-at n d d′ c f v t h w = go (decLt 0 (runs g d (tail g p d)))
     where
       a : ReadAlike u g d d′
       a = w .alike
@@ -149,8 +155,8 @@ module _ (u : Kinds) (g : Geometry) (p m : ℕ) where
       go : Dec (0 < runs g d (tail g p d)) → BothGrown u g m (takeAt g p n d) (takeAt g p n d′)
       go (yes q) =
           subst (BothGrown u g m (takeAt g p n d))
-          (λ i. takeWith (tail-same d d′ a i) (tail-runs d d′ a i) (lengthens-same d d′ a q i) (after-same d d′ a q i)
-          (pair-same d d′ a q i) (Reads.freeSlots-same u g d d′ a i) n d′)
+          (λ i. takeWith (tail-same d d′ a c f i) (tail-runs d d′ a c f i) (lengthens-same d d′ a c f q i) (after-same d d′ a c f q i)
+          (pair-same d d′ a c f q i) (Reads.freeSlots-same u g d d′ a i) n d′)
           (both-with d d′ (tail g p d) (runs g d (tail g p d)) (lengthens g p d) (after g p d)
           (pairByte g d (tail g p d) (runs g d (tail g p d) - 1)) (freeSlots g d) n v t (Entry.runs-le g d (tail g p d)) (longer-below d) slots h w)
       go (no q) =
@@ -159,11 +165,11 @@ module _ (u : Kinds) (g : Geometry) (p m : ℕ) where
           let here : takeWith e r false 0 0 xs n d ≡ takeAt g p n d = ap (λ (b : Bool). takeWith e r b (after g p d) (pairByte g d e (r - 1)) xs n d)
           (sym (no-longer d z)) in
           let there : takeWith e r false 0 0 xs n d′ ≡ takeWith (tail g p d′) (runs g d′ (tail g p d′)) false 0 0 (freeSlots g d′) n d′ =
-          λ i. takeWith (tail-same d d′ a i) (tail-runs d d′ a i) false 0 0 (Reads.freeSlots-same u g d d′ a i) n d′ in
+          λ i. takeWith (tail-same d d′ a c f i) (tail-runs d d′ a c f i) false 0 0 (Reads.freeSlots-same u g d d′ a i) n d′ in
           let there′ : takeWith (tail g p d′) (runs g d′ (tail g p d′)) false 0 0 (freeSlots g d′) n d′ ≡ takeAt g p n d′ =
           ap (λ (b : Bool). takeWith (tail g p d′) (runs g d′ (tail g p d′)) b (after g p d′) (pairByte g d′ (tail g p d′) (runs g d′ (tail g p d′) - 1))
           (freeSlots g d′) n d′)
-          (sym (no-longer d′ (sym (tail-runs d d′ a) ∙ z))) in
+          (sym (no-longer d′ (sym (tail-runs d d′ a c f) ∙ z))) in
           subst (λ (x : Grown). BothGrown u g m x (takeAt g p n d′)) here (subst (BothGrown u g m (takeWith e r false 0 0 xs n d)) (there ∙ there′)
           (both-with d d′ e r false 0 0 xs n v t (Entry.runs-le g d e) (λ y. absurd y) slots h w))
 
@@ -181,7 +187,7 @@ module _ (u : Kinds) (g : Geometry) (p m : ℕ) where
       let t = Change.members g d c p (tail g p d) f (Change.tail-in g d c p f) in
       subst (λ (n : ℕ). BothGrown u g m (andThen (takeAt g p (choice d) d) (growBy g p choice k)) (andThen (takeAt g p n d′) (growBy g p choice k)))
       (ch .same d d′ (w .alike))
-      (go refl (both-at (choice d) d d′ (Stores.of-slot u g m d p (w .tall) (f .slot)) (Stores.of-slot u g m d (tail g p d) (w .tall) (t .slot)) (q .0) w)
+      (go refl (both-at (choice d) d d′ c f (Stores.of-slot u g m d p (w .tall) (f .slot)) (Stores.of-slot u g m d (tail g p d) (w .tall) (t .slot)) (q .0) w)
       (λ e e′ x v. both-by choice ch k e e′ (x .kept .sound) (x .kept .fits) (x .kept .file) (x .kept .user) (omega (arith, x .free)) v))
     where
       next : (e : List ℕ) → takeAt g p (choice d) d ≡ grown e → growBy g p choice 1 d ≡ grown e
@@ -237,7 +243,7 @@ module _ (u : Kinds) (g : Geometry) (p m : ℕ) where
   unfolding unhooked digit
   both-unhooked d d′ e back t v w =
       Stores.both-link u g m _ _ back 0xff 0xff v (Stores.both-link u g m _ _ e 0xff 0xff t
-      (Stores.both-hit u g m _ _ e 0 (Stores.not-count u g m d d′ e w t) (Stores.both-flag u g m d d′ e 0x80 t (inr refl) w)))
+      (Stores.both-hit u g m _ _ e 0 (Stores.not-count u g m d d′ e w t) (Stores.both-flag u g m d d′ e 0x80 t (inr refl) (inl refl) w)))
 
   both-drop-with : (d d′ : List ℕ) (e k pair : ℕ) (ext : Bool) (back n : ℕ) → Slot m e → (T ext → Slot m back) → k < 4 → n - 1 < granules g
       → AlikePair u g m d d′ → AlikePair u g m (dropWith e k pair ext back n d) (dropWith e k pair ext back n d′)
@@ -279,10 +285,13 @@ module _ (u : Kinds) (g : Geometry) (p m : ℕ) where
     unfolding dropOne
     both-drop =
         let a = w .alike in
+        let read = Reads.bytes-at u g d d′ a e (tail-live u g p m d d′ a c f) in
+        let flag = read .flags ∙ ap (λ (x : ℕ). field g d′ x 0) (tail-same u g p m d d′ a c f) in
+        let one = read .one ∙ ap (λ (x : ℕ). field g d′ x 1) (tail-same u g p m d d′ a c f) in
         subst (AlikePair u g m (dropOne g p d))
-        (λ i. dropWith (tail-same u g p m d d′ a i) (tail-runs u g p m d d′ a i - 1) (pair-same u g p m d d′ a run i)
-        (bit 7 (Reads.flags u g d d′ a i (tail-same u g p m d d′ a i))) (Reads.ones u g d d′ a i (tail-same u g p m d d′ a i))
-        (after-same u g p m d d′ a run i) d′)
+        (λ i. dropWith (tail-same u g p m d d′ a c f i) (tail-runs u g p m d d′ a c f i - 1) (pair-same u g p m d d′ a c f run i)
+        (bit 7 (flag i)) (one i)
+        (after-same u g p m d d′ a c f run i) d′)
         (both-drop-with d d′ e (runs g d e - 1) (pairByte g d e (runs g d e - 1)) (extension g d e) (field g d e 1) (after g p d)
         (Stores.of-slot u g m d e (w .tall) (member .slot)) back-slot (omega (arith, Entry.runs-le g d e, run)) last-below w)
 

@@ -14,7 +14,7 @@ use borrow.Author.Tests.{eq-eqb, ne-eqb}
 use Rattle.meaning.specs.Lists.{count, keep, all, any, first, every}
 use Rattle.meaning.specs.Bits.{bit, digit}
 use Rattle.meaning.specs.Layout.{byte, field, taken, hit, granules, gatAt, hitAt, entryAt, aboveTen, fitsGeometry, isSlot}
-use Rattle.meaning.specs.Entries.{extension, nameOf, sizeOf, system}
+use Rattle.meaning.specs.Entries.{inUse, extension, nameOf, sizeOf, system}
 use Rattle.meaning.specs.Chain.{owned, files}
 use Rattle.meaning.specs.Amount.{howMany}
 use Rattle.meaning.specs.Refusal.{naming}
@@ -43,7 +43,8 @@ use Rattle.laws.specs.Places
 use Rattle.laws.specs.Named
 use Rattle.laws.specs.Others
 use Rattle.laws.specs.Passed
-use Rattle.promises_unread.specs.Statement.{Kinds, EntryAlike, Outside, ReadAlike, Unread, EveryPlace, EverySeries, Apart, Same, EveryCall, EveryDisk}
+use Rattle.promises_unread.specs.Statement.{Kinds, BytesAlike, EntryAlike, Outside, ReadAlike, Unread, EveryPlace, EverySeries, Apart, Same, EveryCall}
+use Rattle.promises_unread.specs.Statement.{EveryDisk}
 use Rattle.promises_unread.specs.Statement.{EveryBack}
 use Rattle.promises_unread.specs.Statement.{EveryPair, EveryLoad}
 use Rattle.promises_unread.specs.Reads
@@ -53,8 +54,8 @@ use Rattle.promises_unread.specs.Answers
 
 -- The relation --------------------------------------------------------------------------------------------------------------------
 
-entry-series : (u : Kinds) (f f′ f″ : ℕ → ℕ) → EntryAlike u f f′ → EntryAlike u f′ f″ → EntryAlike u f f″
-entry-series u f f′ f″ a b = record {
+bytes-series : (u : Kinds) (f f′ f″ : ℕ → ℕ) → BytesAlike u f f′ → BytesAlike u f′ f″ → BytesAlike u f f″
+bytes-series u f f′ f″ a b = record {
   flags = a .flags ∙ b .flags;
   one = a .one ∙ b .one;
   low = λ k l h q. a .low k l h q ∙ b .low k l h (ap (λ (x : ℕ). u .extensions && bit 7 x) (sym (a .flags)) ∙ q);
@@ -62,6 +63,12 @@ entry-series u f f′ f″ a b = record {
   second = λ k h q. a .second k h q ∙ b .second k h (ap (λ (x : ℕ). u .behind && eqb x 0xff) (sym (a .block k h)) ∙ q);
   marker = a .marker ∙ b .marker;
   link = λ q. a .link q ∙ b .link (ap (λ (x : ℕ). u .behind && not (eqb x 0xfe)) (sym (a .marker)) ∙ q);
+}
+
+entry-series : (u : Kinds) (f f′ f″ : ℕ → ℕ) → EntryAlike u f f′ → EntryAlike u f′ f″ → EntryAlike u f f″
+entry-series u f f′ f″ a b = record {
+  used = a .used ∙ b .used;
+  bytes = λ q. bytes-series u f f′ f″ (a .bytes q) (b .bytes (ap (λ (x : Bool). u .dead && not x) (sym (a .used)) ∙ q));
 }
 
 pub every-series : EverySeries
@@ -107,13 +114,18 @@ module _ (u : Kinds) (g : Geometry) (d : List ℕ) (k : Places.Fits g d) where
   in-gat : (n : ℕ) → n < granules g → n / g .units < g .blocks
   in-gat n h = Places.block-lt g d n k h
 
-  -- a store to byte j of a slot's entry, on which no byte hangs that is read
-  entered : (s j v : ℕ) → T (isSlot g d s) → j < 32 → j ≢ 0 → j ≢ 1 → j ≢ 0x1e → ((i : ℕ) → i < 4 → j ≢ 0x16 + 2 * i)
-      → (2 ≤ j → j < 0x16 → (u .extensions && bit 7 (field g d s 0)) ≡ false → ⊥)
-      → ((i : ℕ) → i < 4 → j ≡ 0x17 + 2 * i → (u .behind && eqb (field g d s (0x16 + 2 * i)) 0xff) ≡ false → ⊥)
-      → (j ≡ 0x1f → (u .behind && not (eqb (field g d s 0x1e) 0xfe)) ≡ false → ⊥) → ReadAlike u g d (set d (entryAt g s + j) v)
+  both-true : (b c : Bool) → b ≡ true → c ≡ true → (b && c) ≡ false → ⊥
+  both-true b c e q z = Tests.not-both (ap (λ (x : Bool). x && c) e ∙ q) z
+
+  put-here : (s j v : ℕ) → 0 ≡ j → entryAt g s + j < length d → field g (set d (entryAt g s + j) v) s 0 ≡ v
+  unfolding field
+  put-here s j v q h = ap (λ (i : ℕ). byte (set d (entryAt g s + j) v) (entryAt g s + i)) q ∙ getD-set-same d (entryAt g s + j) v 0 h
+
+  -- a store to byte j of a slot's entry, after which it is the same entry to whoever reads it
+  entered : (s j v : ℕ) → T (isSlot g d s) → j < 32 → EntryAlike u (field g d s) (field g (set d (entryAt g s + j) v) s)
+      → ReadAlike u g d (set d (entryAt g s + j) v)
   unfolding hit taken field
-  entered s j v t l n₀ n₁ n₂ n₃ low second link = record {
+  entered s j v t l e = record {
     long = sym (length-set d at v);
     rest = λ i o. sym (getD-set-other d at i v 0 (out i o));
     gat = λ n h. let q = in-gat n h in ap (bit (n % g .units)) (sym (getD-set-other d at (gatAt g n) v 0 (let z = k .blocks-hi in omega arith)));
@@ -133,27 +145,51 @@ module _ (u : Kinds) (g : Geometry) (d : List ℕ) (k : Places.Fits g d) where
           by (inl q) = omega arith
           by (inr q) = omega arith
 
-      same-at : (r i : ℕ) → (entryAt g r + i ≢ entryAt g s + j) → field g d r i ≡ field g (set d (entryAt g s + j) v) r i
-      same-at r i q = sym (getD-set-other d (entryAt g s + j) (entryAt g r + i) v 0 q)
-
       entry : (r : ℕ) → T (isSlot g d r) → Dec (r ≡ s) → EntryAlike u (field g d r) (field g (set d (entryAt g s + j) v) r)
-      entry r w (yes z) = subst (λ (y : ℕ). EntryAlike u (field g d y) (field g (set d (entryAt g s + j) v) y)) (sym z) (record {
-        flags = same-at s 0 (λ q. n₀ (omega arith));
-        one = same-at s 1 (λ q. n₁ (omega arith));
-        low = λ i a b q. same-at s i (λ e. let y : j ≡ i = omega arith in low (omega arith) (omega arith) q);
-        block = λ i h. let y = n₃ i h in same-at s (0x16 + 2 * i) (λ q. y (omega arith));
-        second = λ i h q. same-at s (0x17 + 2 * i) (λ e. second i h (omega arith) q);
-        marker = same-at s 0x1e (λ q. n₂ (omega arith));
-        link = λ q. same-at s 0x1f (λ e. link (omega arith) q);
-      })
-      entry r w (no z) = Reads.whole-alike u _ _ (λ i h. same-at r i (apart i h (Stores.beside g d r s w t z i h)))
+      entry r w (yes z) = subst (λ (y : ℕ). EntryAlike u (field g d y) (field g (set d (entryAt g s + j) v) y)) (sym z) e
+      entry r w (no z) =
+          Reads.whole-alike u _ _ (λ i h.
+          sym (getD-set-other d (entryAt g s + j) (entryAt g r + i) v 0 (apart i h (Stores.beside g d r s w t z i h))))
         where
           apart : (i : ℕ) → i < 32 → (entryAt g r + i < entryAt g s) ⊎ (entryAt g s + 32 ≤ entryAt g r + i) → entryAt g r + i ≢ entryAt g s + j
           apart i h (inl q) = omega arith
           apart i h (inr q) = omega arith
 
-  both-true : (b c : Bool) → b ≡ true → c ≡ true → (b && c) ≡ false → ⊥
-  both-true b c e q z = Tests.not-both (ap (λ (x : Bool). x && c) e ∙ q) z
+  -- the bytes of the entry but that one
+  same-at : (s j v i : ℕ) → i ≢ j → field g d s i ≡ field g (set d (entryAt g s + j) v) s i
+  unfolding field
+  same-at s j v i n = sym (getD-set-other d (entryAt g s + j) (entryAt g s + i) v 0 (λ q. n (omega arith)))
+
+  -- a byte of those that no kind reads
+  spare : (s j v : ℕ) → j ≢ 0 → j ≢ 1 → j ≢ 0x1e → ((i : ℕ) → i < 4 → j ≢ 0x16 + 2 * i)
+      → (2 ≤ j → j < 0x16 → (u .extensions && bit 7 (field g d s 0)) ≡ false → ⊥)
+      → ((i : ℕ) → i < 4 → j ≡ 0x17 + 2 * i → (u .behind && eqb (field g d s (0x16 + 2 * i)) 0xff) ≡ false → ⊥)
+      → (j ≡ 0x1f → (u .behind && not (eqb (field g d s 0x1e) 0xfe)) ≡ false → ⊥) → EntryAlike u (field g d s) (field g (set d (entryAt g s + j) v) s)
+  spare s j v n₀ n₁ n₂ n₃ low second link = record {
+    used = ap (bit 4) (same-at s j v 0 (λ q. n₀ (sym q)));
+    bytes = λ z. record {
+      flags = same-at s j v 0 (λ q. n₀ (sym q));
+      one = same-at s j v 1 (λ q. n₁ (sym q));
+      low = λ i a b q. same-at s j v i (λ e. low (omega arith) (omega arith) q);
+      block = λ i h. let y = n₃ i h in same-at s j v (0x16 + 2 * i) (λ q. y (sym q));
+      second = λ i h q. same-at s j v (0x17 + 2 * i) (λ e. second i h (sym e) q);
+      marker = same-at s j v 0x1e (λ q. n₂ (sym q));
+      link = λ q. same-at s j v 0x1f (λ e. link (sym e) q);
+    };
+  }
+
+  -- a byte of a dead entry
+  dead-byte : (s j v : ℕ) → T (isSlot g d s) → u .dead ≡ true → inUse g d s ≡ false → (j ≡ 0 → bit 4 v ≡ false)
+      → EntryAlike u (field g d s) (field g (set d (entryAt g s + j) v) s)
+  dead-byte s j v t x e f = record {
+    used = go (ℕ-discrete j 0) (decLt (entryAt g s + j) (length d));
+    bytes = λ q. absurd (both-true (u .dead) (not (inUse g d s)) x (ap not e) q);
+  }
+    where
+      go : Dec (j ≡ 0) → Dec (entryAt g s + j < length d) → inUse g d s ≡ inUse g (set d (entryAt g s + j) v) s
+      go (no n) l = ap (bit 4) (same-at s j v 0 (λ q. n (sym q)))
+      go (yes z) (yes l) = e ∙ sym (ap (bit 4) (put-here s j v (sym z) l) ∙ f z)
+      go (yes z) (no l) = ap (λ (y : List ℕ). inUse g y s) (sym (set-out d (entryAt g s + j) v (omega arith)))
 
   placed : (i v : ℕ) → Unread u g d i v → ReadAlike u g d (set d i v)
   unfolding taken
@@ -180,16 +216,17 @@ module _ (u : Kinds) (g : Geometry) (d : List ℕ) (k : Places.Fits g d) where
       (other (hitAt g s) v (λ m h. let q = in-gat m h in let w = k .blocks-hi in omega arith))
       (λ t w q. Members.false-no {b = isSlot g d s} e (let z : t ≡ s = omega arith in subst (λ (x : ℕ). T (isSlot g d x)) z w))
   placed _ _ (Unread.ofExtension s j v t x e l h) =
-      entered s j v t (omega arith) (omega arith) (omega arith) (omega arith) (λ i q. omega arith)
-      (λ a b q. both-true (u .extensions) (bit 7 (field g d s 0)) x e q) (λ i q z w. omega arith) (λ z w. omega arith)
+      entered s j v t (omega arith) (spare s j v (omega arith) (omega arith) (omega arith) (λ i q. omega arith)
+      (λ a b q. both-true (u .extensions) (bit 7 (field g d s 0)) x e q) (λ i q z w. omega arith) (λ z w. omega arith))
   placed _ _ (Unread.behindBlock s j v t x h e) =
-      entered s (0x17 + 2 * j) v t (omega arith) (omega arith) (omega arith) (omega arith) (λ i q. omega arith) (λ a b q. omega arith)
+      entered s (0x17 + 2 * j) v t (omega arith) (spare s (0x17 + 2 * j) v (omega arith) (omega arith) (omega arith) (λ i q. omega arith) (λ a b q. omega arith)
       (λ i q z w. both-true (u .behind) (eqb (field g d s (0x16 + 2 * i)) 0xff) x
       (let y : i ≡ j = omega arith in subst (λ (n : ℕ). eqb (field g d s (0x16 + 2 * n)) 0xff ≡ true) (sym y) (eq-eqb _ _ e)) w)
-      (λ z w. omega arith)
+      (λ z w. omega arith))
   placed _ _ (Unread.behindMarker s v t x n) =
-      entered s 0x1f v t (omega arith) (omega arith) (omega arith) (omega arith) (λ i q. omega arith) (λ a b q. omega arith) (λ i q z w. omega arith)
-      (λ z w. both-true (u .behind) (not (eqb (field g d s 0x1e) 0xfe)) x (ap not (ne-eqb _ _ n)) w)
+      entered s 0x1f v t (omega arith) (spare s 0x1f v (omega arith) (omega arith) (omega arith) (λ i q. omega arith) (λ a b q. omega arith)
+      (λ i q z w. omega arith) (λ z w. both-true (u .behind) (not (eqb (field g d s 0x1e) 0xfe)) x (ap not (ne-eqb _ _ n)) w))
+  placed _ _ (Unread.ofDead s j v t x e h f) = entered s j v t h (dead-byte s j v t x e f)
 
 pub every-place : EveryPlace
 every-place u g d f i v r = placed u g d (Places.fits g d (Members.true-T f)) i v r
@@ -216,7 +253,7 @@ pub every-disk : EveryDisk
 every-disk u g d d′ a = Reads.consistent-same u g d d′ a
 
 pub every-back : EveryBack
-every-back u g d d′ a s = Answers.back-same u g d d′ a s
+every-back u g d d′ z a s = Answers.back-same u g d d′ a z s
 
 -- Compare -------------------------------------------------------------------------------------------------------------------------
 
@@ -232,19 +269,23 @@ module _ (u : Kinds) (g : Geometry) (d d′ : List ℕ) (a : ReadAlike u g d d�
       let b = Answers.fetch-same u g d d′ a (s .sound) (Places.fits g d (s .fits)) p f (inl e) 0 (sizeOf g d p) whole in
       (λ i. record {
         attributes = attributes i;
-        granules = length (Reads.owned-same u g d d′ a i p);
-        bytes = (b ∙ ap (fetch g d′ p 0) (Reads.size-at u g d d′ a p primary)) i;
+        granules = length (own i);
+        bytes = (b ∙ ap (fetch g d′ p 0) (Reads.file-size u g d d′ a p f)) i;
       }))
     where
       whole : 0 + sizeOf g d p ≤ sizeOf g d p
       whole = omega arith
+
+      own : owned g d p ≡ owned g d′ p
+      own = Reads.owned-at u g d d′ a p (Reads.sound-chain u g d d′ a (s .sound) p f)
 
       primary : extension g d p ≡ false
       primary = Reads.is-first u g d d′ a p f
 
       attributes : map (field g d p) (0 ∷ 1 ∷ 2 ∷ 4 ∷ count 0x10 4) ≡ map (field g d′ p) (0 ∷ 1 ∷ 2 ∷ 4 ∷ count 0x10 4)
       attributes =
-          Members.map-eq (field g d p) (field g d′ p) (0 ∷ 1 ∷ 2 ∷ 4 ∷ count 0x10 4) (λ k i. Reads.first-at u g d d′ a p k primary (Others.attribute-low k i))
+          Members.map-eq (field g d p) (field g d′ p) (0 ∷ 1 ∷ 2 ∷ 4 ∷ count 0x10 4)
+          (λ k i. Reads.first-at u g d d′ a p k (Reads.file-live u g d d′ a p f) primary (Others.attribute-low k i))
 
   plain-same : (n : List ℕ) → FoundAlike (plain g d n) (plain g d′ n)
   unfolding plain named foundIn
@@ -263,7 +304,7 @@ names-eq f h (x ∷ xs) e = let p = e x Members.In.here in let q = names-eq f h 
 names-same : (u : Kinds) (g : Geometry) (d d′ : List ℕ) → ReadAlike u g d d′ → names g d ≡ names g d′
 unfolding names
 names-same u g d d′ a =
-    names-eq (nameOf g d) (nameOf g d′) (files g d) (λ p j. Reads.name-at u g d d′ a p (Reads.is-first u g d d′ a p (Facts.files-in g d p j)))
+    names-eq (nameOf g d) (nameOf g d′) (files g d) (λ p j. Reads.file-name u g d d′ a p (Facts.files-in g d p j))
     ∙ (λ i. map (nameOf g d′) (Reads.files-same u g d d′ a i))
 
 difference-same : (n : List ℕ) {x x′ y y′ : Found} → FoundAlike x x′ → FoundAlike y y′ → difference n x y ≡ difference n x′ y′
@@ -362,7 +403,7 @@ module _ (u : Kinds) (g : Geometry) (d d′ : List ℕ) (a : ReadAlike u g d d�
       let p₁ = Passed.passed 12 _ _ (omega arith) (p .1) in
       let f = Answers.fresh-file u g d d′ a x (Passed.yes-T (fresh g d x) (Passed.passed 7 _ _ (omega arith) (p₁ .1) .0)) in
       Answers.fetch-same u g d d′ a (p .0 .sound) (Places.fits g d (p .0 .fits)) (x .slot) f o 0 (sizeOf g d (x .slot)) (omega arith)
-      ∙ ap (fetch g d′ (x .slot) 0) (Reads.size-at u g d d′ a (x .slot) (Reads.is-first u g d d′ a (x .slot) f))
+      ∙ ap (fetch g d′ (x .slot) 0) (Reads.file-size u g d d′ a (x .slot) f)
 
   load-same : loadRecord g d x b ≡ loadRecord g d′ x b
   unfolding loadRecord

@@ -1,7 +1,8 @@
 -- What is not read (01, Directory layout): "Bytes past the last block, and bits past the last unit, are neither read nor changed", and of the HIT's
 -- places of no slot "other places are neither read (1FH excepted) nor changed". "Nor changed" is in `promises` (`Becomes.untouched`, `Becomes.spare`);
 -- here is "neither read": two images that differ only in such places get the same answers from every call, and the images left differ only in such places
--- again. The same of two kinds more, each by itself or both: an extension's bytes 02 to 15, and what stands behind FFH. This is said of any two images,
+-- again. The same of three kinds more, in any choice: an extension's bytes 02 to 15; what stands behind FFH; dead entries, bring back apart. This is said of
+-- any two images,
 -- consistent or not. Nothing is proved here: `Kept` has the theorems.
 use mathlib.Core.Path.{_≡_}
 use mathlib.Core.Logic.{_≢_, _⊎_}
@@ -13,7 +14,7 @@ use lib.ListN.{length, set}
 use Rattle.meaning.specs.Lists.{In}
 use Rattle.meaning.specs.Bits.{bit, digit}
 use Rattle.meaning.specs.Layout.{fitsGeometry, hitAt, entryAt, field, byte, granules, taken, aboveTen, isSlot, hit, directoryGranules}
-use Rattle.meaning.specs.Entries.{system, extension, block, marker}
+use Rattle.meaning.specs.Entries.{inUse, system, extension, block, marker}
 use Rattle.meaning.specs.Chain.{owned}
 use Rattle.meaning.specs.Consistent.{consistent}
 use Rattle.meaning.specs.Refusals.{check}
@@ -41,9 +42,11 @@ pub record Kinds : Type 0 where
   pub extensions : Bool
   -- what stands behind FFH: the second byte of a pair that begins with it, and the link behind a marker that is not FEH
   pub behind : Bool
+  -- dead entries: all but bit 4 of their flags
+  pub dead : Bool
 
 -- An entry on the one image and on the other, by its bytes
-pub record EntryAlike (u : Kinds) (f f′ : ℕ → ℕ) : Type 0 where
+pub record BytesAlike (u : Kinds) (f f′ : ℕ → ℕ) : Type 0 where
   -- flags; and byte 01, an extension's slot before it
   pub flags : f 0 ≡ f′ 0
   pub one : f 1 ≡ f′ 1
@@ -55,6 +58,11 @@ pub record EntryAlike (u : Kinds) (f f′ : ℕ → ℕ) : Type 0 where
   -- "Marker FFH: no extension. FEH: the link is its slot."
   pub marker : f 0x1e ≡ f′ 0x1e
   pub link : (u .behind && not (eqb (f 0x1e) 0xfe)) ≡ false → f 0x1f ≡ f′ 0x1f
+
+-- An entry is in use on both or on neither; and if it is, or dead ones count too, it is the same by its bytes.
+pub record EntryAlike (u : Kinds) (f f′ : ℕ → ℕ) : Type 0 where
+  pub used : bit 4 (f 0) ≡ bit 4 (f′ 0)
+  pub bytes : (u .dead && not (bit 4 (f 0))) ≡ false → BytesAlike u f f′
 
 -- a place in neither GAT nor HIT and in no slot's entry
 abbrev pub Outside : Geometry → List ℕ → ℕ → Type 0
@@ -88,6 +96,8 @@ pub data Unread (u : Kinds) (g : Geometry) (d : List ℕ) : ℕ → ℕ → Type
   behindBlock : (s k v : ℕ) → T (isSlot g d s) → u .behind ≡ true → k < 4 → block g d s k ≡ 0xff → Unread u g d (entryAt g s + (0x17 + 2 * k)) v
   -- the link behind a marker that is not FEH
   behindMarker : (s v : ℕ) → T (isSlot g d s) → u .behind ≡ true → marker g d s ≢ 0xfe → Unread u g d (entryAt g s + 0x1f) v
+  -- any byte of a dead entry, bit 4 of its flags as it was
+  ofDead : (s k v : ℕ) → T (isSlot g d s) → u .dead ≡ true → inUse g d s ≡ false → k < 32 → (k ≡ 0 → bit 4 v ≡ false) → Unread u g d (entryAt g s + k) v
 
 -- It leaves an image that is alike; so do several of them.
 abbrev pub EveryPlace : Type 0
@@ -97,8 +107,8 @@ abbrev pub EverySeries : Type 0
 EverySeries = (u : Kinds) (g : Geometry) (d d′ d″ : List ℕ) → ReadAlike u g d d′ → ReadAlike u g d′ d″ → ReadAlike u g d d″
 
 -- The answer and the image of a call that writes: the one is the same, the other alike.
-abbrev pub AlikeLeft : {A : Type 0} → Kinds → Geometry → A × List ℕ → A × List ℕ → Type 0
-AlikeLeft u g x y = (x .0 ≡ y .0) × ReadAlike u g (x .1) (y .1)
+abbrev pub LeftAlike : {A : Type 0} → Kinds → Geometry → A × List ℕ → A × List ℕ → Type 0
+LeftAlike u g x y = (x .0 ≡ y .0) × ReadAlike u g (x .1) (y .1)
 
 -- A file of the system may own granules of the directory (01: "Directory granules are in no run of a file without the system flag"), and who reads
 -- it reads whatever stands there. Of all other files this is no premise where the call is accepted.
@@ -110,15 +120,15 @@ abbrev pub Same : Kinds → Geometry → List ℕ → List ℕ → Call → Type
 Same u g d d′ checks = check g d ≡ check g d′
 Same u g d d′ (looksUp n) = lookUp g d n ≡ lookUp g d′ n
 Same u g d d′ (opens n len checking code) = open′ g d n len checking code ≡ open′ g d′ n len checking code
-Same u g d d′ (creates n f checking) = AlikeLeft u g (create g d n f checking) (create g d′ n f checking)
+Same u g d d′ (creates n f checking) = LeftAlike u g (create g d n f checking) (create g d′ n f checking)
 Same u g d d′ (reads a x b) =
     let n = howMany a (x .len) b in
     (readOf g d x n b .0 ≡ readOf g d′ x n b .0) × (Apart g d (x .slot) → readOf g d x n b .1 ≡ readOf g d′ x n b .1)
 Same u g d d′ (readsSector x k) = readSector g d x k ≡ readSector g d′ x k
-Same u g d d′ (writes a m x b) = let n = howMany a (x .len) b in AlikeLeft u g (writeOf g d m x n b) (writeOf g d′ m x n b)
-Same u g d d′ (allots x k) = AlikeLeft u g (allot g d x k) (allot g d′ x k)
-Same u g d d′ (trims x) = AlikeLeft u g (trim g d x) (trim g d′ x)
-Same u g d d′ (kills x) = AlikeLeft u g (kill g d x) (kill g d′ x)
+Same u g d d′ (writes a m x b) = let n = howMany a (x .len) b in LeftAlike u g (writeOf g d m x n b) (writeOf g d′ m x n b)
+Same u g d d′ (allots x k) = LeftAlike u g (allot g d x k) (allot g d′ x k)
+Same u g d d′ (trims x) = LeftAlike u g (trim g d x) (trim g d′ x)
+Same u g d d′ (kills x) = LeftAlike u g (kill g d x) (kill g d′ x)
 Same u g d d′ (lists i) = Listing.list g d i ≡ Listing.list g d′ i
 Same u g d d′ counts = Listing.counts g d ≡ Listing.counts g d′
 Same u g d d′ measures = freeSpace g d ≡ freeSpace g d′
@@ -130,9 +140,10 @@ EveryCall = (u : Kinds) (g : Geometry) (d d′ : List ℕ) → ReadAlike u g d d
 abbrev pub EveryDisk : Type 0
 EveryDisk = (u : Kinds) (g : Geometry) (d d′ : List ℕ) → ReadAlike u g d d′ → consistent g d ≡ consistent g d′
 
--- bring back (02 §11)
+-- bring back (02 §11), which reads dead entries
 abbrev pub EveryBack : Type 0
-EveryBack = (u : Kinds) (g : Geometry) (d d′ : List ℕ) → ReadAlike u g d d′ → (s : ℕ) → AlikeLeft u g (bringBack g d s) (bringBack g d′ s)
+EveryBack =
+    (u : Kinds) (g : Geometry) (d d′ : List ℕ) → u .dead ≡ false → ReadAlike u g d d′ → (s : ℕ) → LeftAlike u g (bringBack g d s) (bringBack g d′ s)
 
 -- compare (02 §1), either image
 abbrev pub EveryPair : Type 0

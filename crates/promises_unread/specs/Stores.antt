@@ -25,7 +25,7 @@ use Rattle.lists.specs.Tests
 use Rattle.laws.specs.Frame
 use Rattle.laws.specs.Places
 use Rattle.laws.specs.Words.{words}
-use Rattle.promises_unread.specs.Statement.{Kinds, EntryAlike, Outside, ReadAlike}
+use Rattle.promises_unread.specs.Statement.{Kinds, BytesAlike, EntryAlike, Outside, ReadAlike}
 use Rattle.promises_unread.specs.Reads.{whole-alike, one-slot}
 
 -- Two images that are alike, of a geometry that fits them, with a directory that fits, of 10 sectors and m
@@ -40,8 +40,8 @@ abbrev pub Slot : ℕ → ℕ → Type 0
 Slot m s = T (all (ltb s 256 ∷ ltb (sector s + 2) (10 + m) ∷ []))
 
 -- an entry whose bytes are those of another
-pub carry : (u : Kinds) (f f′ h h′ : ℕ → ℕ) → ((k : ℕ) → k < 32 → h k ≡ f k) → ((k : ℕ) → k < 32 → h′ k ≡ f′ k) → EntryAlike u f f′ → EntryAlike u h h′
-carry u f f′ h h′ e e′ a = record {
+carry-bytes : (u : Kinds) (f f′ h h′ : ℕ → ℕ) → ((k : ℕ) → k < 32 → h k ≡ f k) → ((k : ℕ) → k < 32 → h′ k ≡ f′ k) → BytesAlike u f f′ → BytesAlike u h h′
+carry-bytes u f f′ h h′ e e′ a = record {
   flags = e 0 (omega arith) ∙ a .flags ∙ sym (e′ 0 (omega arith));
   one = e 1 (omega arith) ∙ a .one ∙ sym (e′ 1 (omega arith));
   low = λ j l m q. e j (omega arith) ∙ a .low j l m (rw (e 0 (omega arith)) at q) ∙ sym (e′ j (omega arith));
@@ -50,6 +50,12 @@ carry u f f′ h h′ e e′ a = record {
       e (0x17 + 2 * j) (omega arith) ∙ a .second j m (rw (e (0x16 + 2 * j) (omega arith)) at q) ∙ sym (e′ (0x17 + 2 * j) (omega arith));
   marker = e 0x1e (omega arith) ∙ a .marker ∙ sym (e′ 0x1e (omega arith));
   link = λ q. e 0x1f (omega arith) ∙ a .link (rw (e 0x1e (omega arith)) at q) ∙ sym (e′ 0x1f (omega arith));
+}
+
+pub carry : (u : Kinds) (f f′ h h′ : ℕ → ℕ) → ((k : ℕ) → k < 32 → h k ≡ f k) → ((k : ℕ) → k < 32 → h′ k ≡ f′ k) → EntryAlike u f f′ → EntryAlike u h h′
+carry u f f′ h h′ e e′ a = record {
+  used = ap (bit 4) (e 0 (omega arith)) ∙ a .used ∙ sym (ap (bit 4) (e′ 0 (omega arith)));
+  bytes = λ q. carry-bytes u f f′ h h′ e e′ (a .bytes (rw (e 0 (omega arith)) at q));
 }
 
 -- Entries as functions of the place of a byte -----------------------------------------------------------------------------------------
@@ -66,13 +72,16 @@ put-other : (f : ℕ → ℕ) (k v j : ℕ) → j ≢ k → put f k v j ≡ f j
 unfolding put
 put-other f k v j n = rw (ne-eqb j k n)
 
+twice-other : (f : ℕ → ℕ) (k v j w : ℕ) → 0 ≢ k → 0 ≢ j → put (put f k v) j w 0 ≡ f 0
+twice-other f k v j w n m = put-other (put f k v) j w 0 m ∙ put-other f k v 0 n
+
 put-eq : (f f′ : ℕ → ℕ) (k v j : ℕ) → f j ≡ f′ j → put f k v j ≡ put f′ k v j
 unfolding put
 put-eq f f′ k v j e = λ i. cond (eqb j k) v (e i)
 
-module _ (u : Kinds) (f f′ : ℕ → ℕ) (a : EntryAlike u f f′) where
+module _ (u : Kinds) (f f′ : ℕ → ℕ) (a : BytesAlike u f f′) where
   -- a byte on which nothing hangs that is read
-  pub put-simple : (k v : ℕ) → k ≢ 0 → k ≢ 0x1e → ((j : ℕ) → j < 4 → k ≢ 0x16 + 2 * j) → EntryAlike u (put f k v) (put f′ k v)
+  pub put-simple : (k v : ℕ) → k ≢ 0 → k ≢ 0x1e → ((j : ℕ) → j < 4 → k ≢ 0x16 + 2 * j) → BytesAlike u (put f k v) (put f′ k v)
   put-simple k v n m b = record {
     flags = put-eq f f′ k v 0 (a .flags);
     one = put-eq f f′ k v 1 (a .one);
@@ -84,7 +93,7 @@ module _ (u : Kinds) (f f′ : ℕ → ℕ) (a : EntryAlike u f f′) where
   }
 
   -- the flags, bit 7 as it was, or set
-  pub put-flags : (v : ℕ) → (bit 7 v ≡ bit 7 (f 0)) ⊎ (bit 7 v ≡ true) → EntryAlike u (put f 0 v) (put f′ 0 v)
+  pub put-flags : (v : ℕ) → (bit 7 v ≡ bit 7 (f 0)) ⊎ (bit 7 v ≡ true) → BytesAlike u (put f 0 v) (put f′ 0 v)
   put-flags v e = record {
     flags = put-eq f f′ 0 v 0 (a .flags);
     one = put-eq f f′ 0 v 1 (a .one);
@@ -101,7 +110,7 @@ module _ (u : Kinds) (f f′ : ℕ → ℕ) (a : EntryAlike u f f′) where
       free false c q z = refl
 
   -- both bytes of a pair
-  pub put-pair : (k v w : ℕ) → k < 4 → EntryAlike u (put (put f (0x16 + 2 * k) v) (0x17 + 2 * k) w) (put (put f′ (0x16 + 2 * k) v) (0x17 + 2 * k) w)
+  pub put-pair : (k v w : ℕ) → k < 4 → BytesAlike u (put (put f (0x16 + 2 * k) v) (0x17 + 2 * k) w) (put (put f′ (0x16 + 2 * k) v) (0x17 + 2 * k) w)
   put-pair k v w h = record {
     flags = twice 0 (a .flags);
     one = twice 1 (a .one);
@@ -128,7 +137,7 @@ module _ (u : Kinds) (f f′ : ℕ → ℕ) (a : EntryAlike u f f′) where
       by j m q (no n) = twice (0x17 + 2 * j) (a .second j m (rw (away (0x16 + 2 * j) (λ z. n (omega arith)) (omega arith)) at q))
 
   -- marker and link
-  pub put-link : (v w : ℕ) → EntryAlike u (put (put f 0x1e v) 0x1f w) (put (put f′ 0x1e v) 0x1f w)
+  pub put-link : (v w : ℕ) → BytesAlike u (put (put f 0x1e v) 0x1f w) (put (put f′ 0x1e v) 0x1f w)
   put-link v w = record {
     flags = twice 0 (a .flags);
     one = twice 1 (a .one);
@@ -144,6 +153,28 @@ module _ (u : Kinds) (f f′ : ℕ → ℕ) (a : EntryAlike u f f′) where
 
       away : (j : ℕ) → j ≢ 0x1e → j ≢ 0x1f → put (put f 0x1e v) 0x1f w j ≡ f j
       away j n m = put-other (put f 0x1e v) 0x1f w j m ∙ put-other f 0x1e v j n
+
+-- bytes other than the flags become F of what they were
+entry-put : (u : Kinds) (f f′ : ℕ → ℕ) (F : (ℕ → ℕ) → ℕ → ℕ) → F f 0 ≡ f 0 → F f′ 0 ≡ f′ 0 → (BytesAlike u f f′ → BytesAlike u (F f) (F f′))
+    → EntryAlike u f f′ → EntryAlike u (F f) (F f′)
+entry-put u f f′ F e e′ h a = record {
+  used = ap (bit 4) e ∙ a .used ∙ sym (ap (bit 4) e′);
+  bytes = λ q. h (a .bytes (ap (λ (x : ℕ). u .dead && not (bit 4 x)) (sym e) ∙ q));
+}
+
+-- the flags: no dead entry comes to life, unless dead ones are the same too
+entry-flags : (u : Kinds) (f f′ : ℕ → ℕ) (v : ℕ) → (bit 7 v ≡ bit 7 (f 0)) ⊎ (bit 7 v ≡ true) → (bit 4 v ≡ false) ⊎ (u .dead ≡ false)
+    → EntryAlike u f f′ → EntryAlike u (put f 0 v) (put f′ 0 v)
+entry-flags u f f′ v e o a = record {
+  used = ap (bit 4) (put-same f 0 v ∙ sym (put-same f′ 0 v));
+  bytes = λ q. put-flags u f f′ (a .bytes (alive (u .dead) (bit 4 v) o (ap (λ (x : ℕ). u .dead && not (bit 4 x)) (sym (put-same f 0 v)) ∙ q))) v e;
+}
+  where
+    alive : (b c : Bool) → (c ≡ false) ⊎ (b ≡ false) → (b && not c) ≡ false → (b && not (bit 4 (f 0))) ≡ false
+    alive true true (inl z) q = Tests.not-both refl z
+    alive true false o q = Tests.not-both refl q
+    alive true true (inr z) q = Tests.not-both refl z
+    alive false c o q = refl
 
 -- One byte ------------------------------------------------------------------------------------------------------------------------
 
@@ -375,24 +406,29 @@ module _ (u : Kinds) (g : Geometry) (m : ℕ) where
   -- a byte on which nothing hangs that is read
   pub both-field : (d d′ : List ℕ) (s k v : ℕ) → Slot m s → k < 32 → k ≢ 0 → k ≢ 0x1e → ((j : ℕ) → j < 4 → k ≢ 0x16 + 2 * j)
       → AlikePair u g m d d′ → AlikePair u g m (setField g d s k v) (setField g d′ s k v)
-  both-field d d′ s k v t h n l b w = both-wrote s _ d d′ _ _ t (wrote-one s k v d h) (wrote-one s k v d′ h) (λ a. put-simple u _ _ a k v n l b) w
+  both-field d d′ s k v t h n l b w = both-wrote s _ d d′ _ _ t (wrote-one s k v d h) (wrote-one s k v d′ h) (λ a.
+      entry-put u _ _ (λ f. put f k v) (put-other _ k v 0 (λ z. n (sym z))) (put-other _ k v 0 (λ z. n (sym z))) (λ c. put-simple u _ _ c k v n l b) a) w
 
   -- the flags, bit 7 as it was, or set
-  pub both-flag : (d d′ : List ℕ) (s v : ℕ) → Slot m s → (bit 7 v ≡ bit 7 (field g d s 0)) ⊎ (bit 7 v ≡ true) → AlikePair u g m d d′
+  pub both-flag : (d d′ : List ℕ) (s v : ℕ) → Slot m s → (bit 7 v ≡ bit 7 (field g d s 0)) ⊎ (bit 7 v ≡ true)
+      → (bit 4 v ≡ false) ⊎ (u .dead ≡ false) → AlikePair u g m d d′
       → AlikePair u g m (setField g d s 0 v) (setField g d′ s 0 v)
-  both-flag d d′ s v t e w = both-wrote s _ d d′ _ _ t (wrote-one s 0 v d (omega arith)) (wrote-one s 0 v d′ (omega arith)) (λ a. put-flags u _ _ a v e) w
+  both-flag d d′ s v t e o w = both-wrote s _ d d′ _ _ t (wrote-one s 0 v d (omega arith)) (wrote-one s 0 v d′ (omega arith)) (λ a. entry-flags u _ _ v e o a) w
 
   -- a pair
   pub both-pair : (d d′ : List ℕ) (s k x y : ℕ) → Slot m s → k < 4 → AlikePair u g m d d′ → AlikePair u g m (setPair g d s k x y) (setPair g d′ s k x y)
   both-pair d d′ s k x y t h w =
       both-wrote s _ d d′ _ _ t (wrote-two s (0x16 + 2 * k) x (0x17 + 2 * k) y d (omega arith) (omega arith))
-      (wrote-two s (0x16 + 2 * k) x (0x17 + 2 * k) y d′ (omega arith) (omega arith)) (λ a. put-pair u _ _ a k x y h) w
+      (wrote-two s (0x16 + 2 * k) x (0x17 + 2 * k) y d′ (omega arith) (omega arith)) (λ a.
+      entry-put u _ _ (λ f. put (put f (0x16 + 2 * k) x) (0x17 + 2 * k) y) (twice-other _ _ x _ y (omega arith) (omega arith))
+      (twice-other _ _ x _ y (omega arith) (omega arith)) (λ c. put-pair u _ _ c k x y h) a) w
 
   -- marker and link
   pub both-link : (d d′ : List ℕ) (s x y : ℕ) → Slot m s → AlikePair u g m d d′ → AlikePair u g m (setLink g d s x y) (setLink g d′ s x y)
   both-link d d′ s x y t w =
       both-wrote s _ d d′ _ _ t (wrote-two s 0x1e x 0x1f y d (omega arith) (omega arith)) (wrote-two s 0x1e x 0x1f y d′ (omega arith) (omega arith))
-      (λ a. put-link u _ _ a x y) w
+      (λ a. entry-put u _ _ (λ f. put (put f 0x1e x) 0x1f y) (twice-other _ 0x1e x 0x1f y (omega arith) (omega arith))
+      (twice-other _ 0x1e x 0x1f y (omega arith) (omega arith)) (λ c. put-link u _ _ c x y) a) w
 
   -- a whole entry
   pub both-sets : (vs d d′ : List ℕ) (s : ℕ) → length vs ≡ 32 → Slot m s → AlikePair u g m d d′
