@@ -1,4 +1,4 @@
--- The same of bring back (02 §11) and of compare (02 §1), which are promised in statements of their own.
+-- The same of bring back (02 §11), of compare (02 §1) and of the fault (02 §2), which are promised in statements of their own.
 use mathlib.Core.Path.{_≡_, refl, sym, ap, subst, _∙_}
 use mathlib.Core.Logic.{_≢_, _↔_}
 use mathlib.Core.Bool.{Bool, true, false}
@@ -14,9 +14,12 @@ use Rattle.meaning.specs.Entries.{nameOf}
 use Rattle.meaning.specs.Plain.{File, Found, found, nothing, plain}
 use Rattle.meaning.specs.declared.Geometry.{Geometry}
 use Rattle.meaning.specs.declared.BroughtBack.{BroughtBack}
+use Rattle.meaning.specs.declared.Refusal.{Refusal}
 use Rattle.differences.specs.declared.Difference.{Difference}
 use Rattle.promises_words.specs.Untouched.{hush}
 use Rattle.promises_back.specs.Statement.{BackPromised, BringsBack, backTable}
+use Rattle.promises_fault.specs.Statement.{FaultIs}
+use Rattle.promises_fault.specs.Kept.{every-fault}
 use Rattle.promises_compare.specs.Statement.{Says, onlyFirst, onlySecond, inBoth, Unlike, Parts, Compares}
 use Rattle.strength.specs.Fixed.{one-number, same-becomes, SamePlain, one-file, there-or-not}
 
@@ -51,6 +54,12 @@ back-two g d s r r′ d′ d″ x y =
           granules = v .2 ∙ sym (w .2);
           files = λ m. ap (λ (e : List ℕ). hush (plain g e m)) (v .0 ∙ sym (w .0));
         }
+
+-- The fault ------------------------------------------------------------------------------------------------------------------------
+
+-- number and slot, by what each kind of fault means
+pub fault-two : (g : Geometry) (d : List ℕ) (r r′ : Refusal) → FaultIs g d r → FaultIs g d r′ → r ≡ r′
+fault-two g d r r′ x y = every-fault g d .one r x ∙ sym (every-fault g d .one r′ y)
 
 -- Compare --------------------------------------------------------------------------------------------------------------------------
 
