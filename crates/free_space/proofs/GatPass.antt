@@ -24,7 +24,7 @@ use Rattle.laws.specs.Stretches.{stretch-taken, stretch-free, stretch-le}
 use Rattle.lists.specs.Ranges.{left-none}
 use Rattle.lists.specs.Tests.{keep-yes, keep-no, all-at, first-hit, first-skip, first-none, not-yes, not-no}
 use Rattle.space.proofs.Clear.{freeIn, gatByte, taken-at, blocks-more, block-next}
-use Rattle.free_space.specs.Pass.{Gat, Tells, ended, met, bits}
+use Rattle.free_space.specs.Pass.{Gat, Tells, ended, longer, met, bits}
 use Rattle.free_space.specs.declared.Seen.{Seen}
 
 -- One step ----------------------------------------------------------------------------------------------------------------
@@ -50,6 +50,9 @@ pub met-few : (t : Bool) (p q : Seen) → q ≡ met t p → q .free + q .here �
 unfolding met ended
 met-few true p q e = rw e (omega arith)
 met-few false p q e = rw e (omega arith)
+
+pub longer-few : (n : ℕ) (p q : Seen) → q ≡ longer p n → q .free + q .here ≤ p .free + p .here + n
+longer-few n p q e = rw e (omega arith)
 
 pub ended-few : (n : ℕ) (p q : Seen) → q ≡ ended p → q .free + q .here ≤ p .free + p .here + n
 unfolding ended
@@ -99,7 +102,7 @@ bits-clear (suc n) x p e =
     ∙ ap (bits n (x / 2)) (met-free {t = eqb (x % 2) 1} p (ap (λ (k : ℕ). eqb k 1) b))
 
 -- where no granule is free any more the stretch has ended
-ended-again : (p : Seen) → ended (ended p) ≡ ended p
+pub ended-again : (p : Seen) → ended (ended p) ≡ ended p
 unfolding ended
 ended-again p =
     let a : p .free + p .here + 0 ≡ p .free + p .here = omega arith in

@@ -1,12 +1,13 @@
-// Free space from the GAT alone: one pass over the bytes of the disk's blocks. A block all of whose granules are free, or all taken, is met
-// in one step, any other bit by bit. A stretch goes on from block to block, and no granule number is worked out, so nothing is divided.
-// space::free_count counts by whole bytes: it cannot serve here, for the longest stretch hangs on which bits are clear and not on how many.
+// Free space from the GAT alone: one pass over the bytes of the disk's blocks. A block all of whose granules are free, or all taken, is met in
+// one step, and so are eight such blocks of eight granules; any other is met bit by bit. A stretch goes on from block to block, and no granule
+// number is worked out, so nothing is divided. space::free_count counts by whole bytes: it cannot serve here, for the longest stretch hangs on
+// which bits are clear and not on how many.
 use meaning::Geometry;
 use meaning::Space;
 ghost use mathlib.Core.Path.{_≡_};
 ghost use Prim.Native.Nat.{_≤_};
 ghost use Rattle.meaning.specs.FreeSpace.{freeSpace};
-ghost use Rattle.free_space.specs.Pass.{Gat, RoomLeft, BlockPassed, Tells, ended, met};
+ghost use Rattle.free_space.specs.Pass.{Gat, EightBlocks, RoomLeft, BlockPassed, Tells, ended, longer, met};
 
 // What the pass has seen so far: the free granules of the stretches that have ended, those of the stretch that has not, and how long the
 // longest of those that have ended is.
@@ -36,6 +37,18 @@ fn ended(p: Seen) -> Seen
     }
 }
 
+// n granules more, all free: the stretch goes on.
+fn longer(p: Seen, n: usize) -> Seen
+    requires { ⌜ RoomLeft 0 p × (n ≤ 64) ⌝ }
+    ensures { λ r. ⌜ r ≡ longer p n ⌝ }
+{
+    Seen {
+        free: p.free,
+        here: p.here + n,
+        longest: p.longest,
+    }
+}
+
 // One granule more, taken or free.
 fn met(taken: bool, p: Seen) -> Seen
     requires { ⌜ RoomLeft 0 p ⌝ }
@@ -44,11 +57,7 @@ fn met(taken: bool, p: Seen) -> Seen
     if taken {
         return ended(p);
     }
-    Seen {
-        free: p.free,
-        here: p.here + 1,
-        longest: p.longest,
-    }
+    longer(p, 1)
 }
 
 // The granules of one block, bit by bit: so many of the lowest bits of its GAT byte.
@@ -75,17 +84,31 @@ fn block(byte: usize, units: usize, p: Seen) -> Seen
     let all = 1 << units;
     let low = byte % all;
     if low == 0 {
-        return Seen {
-            free: p.free,
-            here: p.here + units,
-            longest: p.longest,
-        };
+        return longer(p, units);
     }
     if low == all - 1 {
         return ended(p);
     }
     each_bit(byte, units, p)
 }
+
+// The GAT bytes of eight blocks from block b on as one number, where there are so many and each has eight granules. Else 1, which is
+// neither that of eight free blocks nor that of eight taken ones.
+fn octet(image: &[u8], g: Geometry, b: usize) -> u64
+    requires { ⌜ Gat g (now image) × (b ≤ g .blocks) ⌝ }
+    ensures { λ r. ⌜ EightBlocks g (now (image .entry)) b r ⌝ }
+{
+    if g.units != 8 {
+        return 1;
+    }
+    if g.blocks < b + 8 {
+        return 1;
+    }
+    layout::eight(image, 256 * g.start + b)
+}
+
+// Eight bytes that are all FFH.
+const ALL_TAKEN: u64 = 18446744073709551615;
 
 // The whole pass. The last stretch ends with the last block.
 fn pass(image: &[u8], g: Geometry) -> Seen
@@ -99,6 +122,17 @@ fn pass(image: &[u8], g: Geometry) -> Seen
     };
     let mut b = 0;
     while b < g.blocks {
+        let x = octet(image, g, b);
+        if x == 0 {
+            seen = longer(seen, 64);
+            b += 8;
+            continue;
+        }
+        if x == ALL_TAKEN {
+            seen = ended(seen);
+            b += 8;
+            continue;
+        }
         seen = block(layout::wide(image[256 * g.start + b]), g.units, seen);
         b += 1;
     }
