@@ -1,30 +1,30 @@
 -- Every call of two images that are alike but for what is not read: the same refusals in the same order, the same answer, and images left alike.
 use mathlib.Core.Path.{_≡_, refl, ap, sym, _∙_, subst}
 use mathlib.Core.Logic.{_≢_, _⊎_, inl, inr}
-use mathlib.Core.Bool.{Bool, true, false, not, cond, _&&_, _||_}
+use mathlib.Core.Bool.{Bool, true, false, not, cond, _&&_}
 use mathlib.Core.List.{List, [], _∷_, _++_, map}
 use Prim.Native.Nat.{ℕ, zero, suc, _+_, _-_, _*_, _/_, _%_, _≤_, _<_}
 use native.Mathlib.Omega.{arith}
-use lib.Dec.{T, eqb, leb, ltb, not-T, T-not, eqb→eq, leb→le, nltb→le}
+use lib.Dec.{T, eqb, leb, ltb, not-T, T-not, eqb→eq, nltb→le}
 use lib.ListN.{length, take, drop, replicate, set, length-take, length-replicate, length-append}
-use lib.Seq.{sets, getD-set-other}
-use Rattle.meaning.specs.Lists.{count, keep, has, same, all, any, first, firstOr, times, through, every, distinct, some, lastOr}
+use lib.Seq.{getD-set-other}
+use Rattle.meaning.specs.Lists.{count, keep, has, same, all, any, first, firstOr, times, through, every, distinct, some}
 use Rattle.meaning.specs.Bits.{putDigit, bit, withBit, withoutBit}
-use Rattle.meaning.specs.Layout.{byte, granuleSectors, granuleBytes, granules, fitsGeometry, taken, takeGranule, freeGranule, hit, hitAt, entryAt, isSlot}
+use Rattle.meaning.specs.Layout.{byte, granuleBytes, granules, fitsGeometry, taken, takeGranule, freeGranule, hit, hitAt, entryAt, isSlot}
 use Rattle.meaning.specs.Layout.{slots, field, setField, highest, sectorNumbers, granulesFor, directoryGranules, directorySectors, aboveTen}
 use Rattle.meaning.specs.Names.{hash, comesIn, wellFormed}
 use Rattle.meaning.specs.Entries.{inUse, extension, inUsePrimary, sectorCount, noGrowth, keepsSpace}
-use Rattle.meaning.specs.Entries.{marker, link, nameOf, sizeOf, sizeFrom, system, endByteFor, sectorsFor}
+use Rattle.meaning.specs.Entries.{marker, link, nameOf, sizeOf, system, endByteFor, sectorsFor}
 use Rattle.meaning.specs.Chain.{chain, owned, files, place}
-use Rattle.meaning.specs.Consistent.{lengthHolds, nameHolds, sizeHolds, consistent}
+use Rattle.meaning.specs.Consistent.{nameHolds, sizeHolds}
 use Rattle.meaning.specs.Free.{freeGranules, freeSlots}
-use Rattle.meaning.specs.Growth.{Grown, grown, fails, diskOr, growth, lacking, withGranules}
+use Rattle.meaning.specs.Growth.{fails, growth, lacking, withGranules}
 use Rattle.meaning.specs.Drop.{dropOne}
 use Rattle.meaning.specs.Refusal.{unplaced, carried, carriedTwo}
 use Rattle.meaning.specs.Refusals.{byNumber, faultNumbers, diskRefusals, refusal, accepted, badName, newInRange, handleRefusals, notForReading, protected}
 use Rattle.meaning.specs.Refusals.{badAt, nameRefusal, cannotGrow, check}
 use Rattle.meaning.specs.Handles.{goodLength, inRange, fresh, noHandle, movedTo}
-use Rattle.meaning.specs.LookUp.{slotOf, candidates, carries, comparedIn, named, lookUp, missing, lookUpRefusals}
+use Rattle.meaning.specs.LookUp.{slotOf, candidates, carries, comparedIn, named, lookUp, missing}
 use Rattle.meaning.specs.Open.{openRefusals, full, admits, open′, openedAt}
 use Rattle.meaning.specs.Create.{create, newSlot, withEntry, newEntry, createRefusals}
 use Rattle.meaning.specs.Read.{fetch, readOf, readSector, readRefusals, sectorRefusals, sectorBytes}
@@ -60,7 +60,6 @@ use Rattle.laws.specs.BringBack as LawsBack
 use Rattle.laws.specs.Passed
 use Rattle.laws.specs.Store.{store-other}
 use Rattle.laws.specs.Rewrite
-use Rattle.laws.specs.Words.{words}
 use Rattle.promises.specs.Grow
 use Rattle.promises_unread.specs.Statement.{Kinds, BytesAlike, ReadAlike, LeftAlike, Apart}
 use Rattle.promises_unread.specs.Reads

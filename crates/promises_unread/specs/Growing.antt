@@ -1,23 +1,22 @@
 -- A growth and a trim of two images that are alike, step by step: the same granule is taken or dropped of both, the same entry changed.
 use mathlib.Core.Path.{_≡_, refl, ap, sym, _∙_, subst}
-use mathlib.Core.Logic.{_≢_, _⊎_, inl, inr}
+use mathlib.Core.Logic.{_≢_, inl, inr}
 use mathlib.Core.Bool.{Bool, true, false, not, cond, _&&_}
-use mathlib.Core.List.{List, [], _∷_, _++_}
-use Prim.Native.Nat.{ℕ, zero, suc, _+_, _-_, _*_, _/_, _%_, _≤_, _<_}
+use mathlib.Core.List.{List, [], _∷_}
+use Prim.Native.Nat.{ℕ, zero, suc, _+_, _-_, _*_, _≤_, _<_}
 use native.Mathlib.Omega.{arith}
 use native.Mathlib.Decide.{decLt}
 use lib.Dec.{T, T-not, eqb, leb, ltb, ltb→lt}
-use lib.ListN.{length, set}
+use lib.ListN.{length}
 use lib.Seq.{sets}
-use Rattle.meaning.specs.Lists.{all, lastOr, firstOr, times, count}
-use Rattle.meaning.specs.Layout.{granules, taken, takeGranule, freeGranule, hit, hitAt, entryAt, aboveTen, isSlot, field, setField, granuleBytes}
+use Rattle.meaning.specs.Lists.{all, lastOr, times, count}
+use Rattle.meaning.specs.Layout.{granules, taken, takeGranule, freeGranule, hit, hitAt, entryAt, isSlot, field, setField, granuleBytes}
 use Rattle.meaning.specs.Bits.{bit, digit}
-use Rattle.meaning.specs.Entries.{block, pairByte, setLink, runs, pairStart, pairLength, runStart, runLength, system, sizeOf, extension, setPair, setPairByte}
-use Rattle.meaning.specs.Chain.{chain, owned, tail}
+use Rattle.meaning.specs.Entries.{block, pairByte, setLink, runs, pairStart, pairLength, system, sizeOf, extension, setPair}
+use Rattle.meaning.specs.Chain.{owned, tail}
 use Rattle.meaning.specs.Free.{freeGranules, freeSlots, freeSlot, permitted, lowestFree, longestFree}
-use Rattle.meaning.specs.Stretch.{lowEnd, longestIn, stretch}
-use Rattle.meaning.specs.Growth.{Grown, grown, noSlot, andThen, orElse, fails, diskOr, withPair, newExtension, withExtension, after, lengthens, lengthened}
-use Rattle.meaning.specs.Growth.{extended, takeAt, growBy, grow, growth, withGranules}
+use Rattle.meaning.specs.Growth.{Grown, grown, noSlot, andThen, orElse, fails, diskOr, withPair, newExtension, withExtension, after, lengthens}
+use Rattle.meaning.specs.Growth.{extended, takeAt, growBy, growth}
 use Rattle.meaning.specs.Drop.{unhooked, dropOne}
 use Rattle.meaning.specs.declared.Geometry.{Geometry}
 use Rattle.lists.specs.Members
@@ -25,13 +24,11 @@ use Rattle.lists.specs.Members.{In}
 use Rattle.lists.specs.Sizes
 use Rattle.laws.specs.Facts
 use Rattle.laws.specs.Facts.{Sound, IsFile}
-use Rattle.laws.specs.Frame
 use Rattle.laws.specs.Places
 use Rattle.laws.specs.Change
 use Rattle.laws.specs.Drop
 use Rattle.laws.specs.DropLast
 use Rattle.laws.specs.Shorter
-use Rattle.laws.specs.Words.{words}
 use Rattle.laws.specs.Entry
 use Rattle.laws.specs.TakeOne
 use Rattle.promises.specs.Grow

@@ -3,18 +3,18 @@ use mathlib.Core.Path.{_≡_, refl, ap, sym, _∙_, subst}
 use mathlib.Core.Logic.{_≢_, _⊎_, inl, inr}
 use mathlib.Core.Bool.{Bool, true, false, not, cond, _&&_, _||_}
 use mathlib.Core.List.{List, [], _∷_, _++_, map}
-use Prim.Native.Nat.{ℕ, suc, _+_, _-_, _*_, _/_, _%_, _≤_, _<_}
+use Prim.Native.Nat.{ℕ, _+_, _-_, _*_, _/_, _%_, _≤_, _<_}
 use native.Mathlib.Omega.{arith}
 use native.Mathlib.Decide.{ℕ-discrete, decLt}
 use native.Mathlib.Nat.{mod-lt}
-use lib.Dec.{T, eqb, leb, ltb, not-T, eqb→eq, ltb→lt}
+use lib.Dec.{T, eqb, leb, ltb, eqb→eq, ltb→lt}
 use lib.ListN.{length, getD, take, drop, set, length-set}
 use lib.Seq.{getD-set-same, getD-set-other, set-out}
 use borrow.Author.Tests.{eq-eqb, ne-eqb}
-use Rattle.meaning.specs.Lists.{count, keep, all, any, first, every}
+use Rattle.meaning.specs.Lists.{count, keep, all, any, first}
 use Rattle.meaning.specs.Bits.{bit, digit}
-use Rattle.meaning.specs.Layout.{byte, field, taken, hit, granules, gatAt, hitAt, entryAt, aboveTen, fitsGeometry, isSlot}
-use Rattle.meaning.specs.Entries.{inUse, extension, nameOf, sizeOf, system}
+use Rattle.meaning.specs.Layout.{byte, field, taken, hit, granules, gatAt, hitAt, entryAt, isSlot}
+use Rattle.meaning.specs.Entries.{inUse, extension, nameOf, sizeOf}
 use Rattle.meaning.specs.Chain.{owned, files}
 use Rattle.meaning.specs.Amount.{howMany}
 use Rattle.meaning.specs.Refusal.{naming}
@@ -23,27 +23,25 @@ use Rattle.meaning.specs.Handles.{inRange, fresh, movedTo}
 use Rattle.meaning.specs.LookUp.{candidates, carries, named}
 use Rattle.meaning.specs.Read.{fetch}
 use Rattle.meaning.specs.Plain.{File, Found, found, nothing, fileAt, foundIn, plain, isSystem}
-use Rattle.meaning.specs.Calls.{Call, checks, looksUp, opens, creates, reads, readsSector, writes, allots, trims, kills, lists, counts, measures}
+use Rattle.meaning.specs.Calls.{checks, looksUp, opens, creates, reads, readsSector, writes, allots, trims, kills, lists, counts, measures}
 use Rattle.meaning.specs.declared.Geometry.{Geometry}
 use Rattle.meaning.specs.declared.Handle.{Handle}
 use Rattle.differences.specs.Compare.{difference, nameOnly, unlike, isOne, tellFirst, tellsNone, names, merged, rising, differences, compare}
 use Rattle.differences.specs.declared.Difference.{Difference}
 use Rattle.load.specs.Records.{recordFrom, toldAt, itemAt, past, itemRefusals}
-use Rattle.load.specs.Load.{loadRecord, loadRefusals, loadNumbers, asked, bytesOf, mostBytes}
-use Rattle.load.specs.declared.NextRecord.{NextRecord}
+use Rattle.load.specs.Load.{loadRecord, loadRefusals, loadNumbers, bytesOf, mostBytes}
 use Rattle.load.specs.declared.Loaded.{Loaded}
 use Rattle.lists.specs.Members
 use Rattle.lists.specs.Members.{In}
 use Rattle.lists.specs.First
 use Rattle.lists.specs.Tests
 use Rattle.laws.specs.Facts
-use Rattle.laws.specs.Facts.{Sound, IsFile}
-use Rattle.laws.specs.Frame
+use Rattle.laws.specs.Facts.{IsFile}
 use Rattle.laws.specs.Places
 use Rattle.laws.specs.Named
 use Rattle.laws.specs.Others
 use Rattle.laws.specs.Passed
-use Rattle.promises_unread.specs.Statement.{Kinds, BytesAlike, EntryAlike, Outside, ReadAlike, Unread, EveryPlace, EverySeries, Apart, Same, EveryCall}
+use Rattle.promises_unread.specs.Statement.{Kinds, BytesAlike, EntryAlike, Outside, ReadAlike, Unread, EveryPlace, EverySeries, Apart, EveryCall}
 use Rattle.promises_unread.specs.Statement.{EveryDisk}
 use Rattle.promises_unread.specs.Statement.{EveryBack}
 use Rattle.promises_unread.specs.Statement.{EveryPair, EveryLoad}

@@ -5,30 +5,30 @@
 use mathlib.Core.Path.{_≡_, refl, ap, sym, _∙_, subst}
 use mathlib.Core.Logic.{_≢_, _⊎_, inl, inr}
 use mathlib.Core.Bool.{Bool, true, false, not, cond, _&&_, _||_, Bool·beq}
-use mathlib.Core.List.{List, [], _∷_, _++_, map}
+use mathlib.Core.List.{List, [], _∷_, _++_}
 use Prim.Native.Nat.{ℕ, zero, suc, _+_, _-_, _*_, _/_, _%_, _≤_, _<_}
 use native.Mathlib.Omega.{arith}
 use native.Mathlib.Decide.{decLt}
 use borrow.Author.Tests.{ne-eqb}
 use lib.Dec.{T, T-not, eqb, eqb→eq, leb, ltb}
 use lib.ListN.{length, getD}
-use Rattle.meaning.specs.Lists.{count, keep, each, every, some, has, same, distinct, all, any, first, firstOr, lastOr}
+use Rattle.meaning.specs.Lists.{count, keep, each, every, some, has, same, distinct, all, any, first, firstOr}
 use Rattle.meaning.specs.Bits.{bit, digit}
 use Rattle.meaning.specs.Layout.{byte, granuleSectors, granuleBytes, granules, sectors, fitsGeometry, taken, hit, directorySectors, isSlot, slots, field}
-use Rattle.meaning.specs.Layout.{entryAt, directoryGranules, aboveTen, sector, roundUp}
+use Rattle.meaning.specs.Layout.{entryAt, directoryGranules, sector, roundUp}
 use Rattle.meaning.specs.Names.{hash, wellFormed}
 use Rattle.meaning.specs.BringBack.{killedEntryHolds}
 use Rattle.meaning.specs.Entries.{system, inUse, extension, inUsePrimary, nameOf, sectorCount, sizeOf, sizeFrom, block, pairByte, runs, runGranules}
 use Rattle.meaning.specs.Entries.{entryGranules}
 use Rattle.meaning.specs.Entries.{pairUnit}
 use Rattle.meaning.specs.Entries.{pairLength, pairStart, marker, link}
-use Rattle.meaning.specs.Chain.{chainFrom, chain, owned, files, place, granuleOf, tail}
-use Rattle.meaning.specs.Consistent.{lengthHolds, hitHolds, hashHolds, nameHolds, pairsHold, followsBy, linkHoldsBy, runsHold, gatHolds, sizeHolds}
-use Rattle.meaning.specs.Consistent.{offDirectory, slotHolds, fileHolds, namesDiffer, met, directoryTaken, countHolds, consistent}
+use Rattle.meaning.specs.Chain.{chainFrom, chain, owned, files, place, granuleOf}
+use Rattle.meaning.specs.Consistent.{lengthHolds, hitHolds, nameHolds, pairsHold, followsBy, linkHoldsBy, runsHold, gatHolds, sizeHolds}
+use Rattle.meaning.specs.Consistent.{met, directoryTaken, countHolds, consistent}
 use Rattle.meaning.specs.Fault.{usedExtension, handsOn, ends, badEntry, walkFrom, walk, walked, metFrom, fileOf, goodExtension, hitFault, nameFault}
 use Rattle.meaning.specs.Fault.{duplicateFault, chainFault, runFault, gatFault, sharedFault, chainWhole, sizeFault, directoryFault, faultAt, lowest, fault}
 use Rattle.meaning.specs.Refusal.{unplaced, placed, carried}
-use Rattle.meaning.specs.Refusals.{badGeometry, byNumber, faultNumbers, check}
+use Rattle.meaning.specs.Refusals.{byNumber, faultNumbers, check}
 use Rattle.meaning.specs.Free.{freeGranules, kept, permitted, freeSlot, freeSlots, lowestFree, longestFree}
 use Rattle.meaning.specs.Stretch.{stretch, longestIn, lowEnd}
 use Rattle.meaning.specs.declared.Refusal.{Refusal}

@@ -5,17 +5,17 @@ use mathlib.Core.Path.{_≡_, refl, ap, sym, _∙_, subst}
 use mathlib.Core.Logic.{_≢_, _⊎_, inl, inr}
 use mathlib.Core.Bool.{Bool, true, false, not, cond, _&&_}
 use mathlib.Core.List.{List, [], _∷_}
-use Prim.Native.Nat.{ℕ, zero, suc, _+_, _-_, _*_, _/_, _%_, _≤_, _<_}
+use Prim.Native.Nat.{ℕ, _+_, _-_, _*_, _%_, _≤_, _<_}
 use native.Mathlib.Omega.{arith}
 use native.Mathlib.Decide.{ℕ-discrete, decLt}
 use lib.Dec.{T, eqb, ltb}
-use lib.ListN.{length, getD, set, length-set}
+use lib.ListN.{length, set, length-set}
 use lib.Seq.{getD-set-same, getD-set-other, set-out, sets, length-sets}
 use borrow.Author.Tests.{eq-eqb, ne-eqb}
 use Rattle.meaning.specs.Lists.{all, through}
-use Rattle.meaning.specs.Bits.{bit, digit, putDigit}
+use Rattle.meaning.specs.Bits.{bit, putDigit}
 use Rattle.meaning.specs.Layout.{byte, granules, taken, takeGranule, freeGranule, gatAt, hitAt, entryAt, hit, aboveTen, isSlot, field, setField}
-use Rattle.meaning.specs.Layout.{directorySectors, sectors, sector}
+use Rattle.meaning.specs.Layout.{directorySectors, sector}
 use Rattle.meaning.specs.Entries.{setPair, setLink}
 use Rattle.meaning.specs.Write.{store}
 use Rattle.meaning.specs.declared.Geometry.{Geometry}
