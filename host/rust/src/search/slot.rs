@@ -101,8 +101,8 @@ impl<'a> Slots<'a> {
             let rows = 0..Geometry::SECTOR_BYTES / Entry::LEN;
             rows.fold(0, |bytes, row| bytes << 8 | u64::from(sector[Entry::LEN * row + at]))
         };
-        let used = zeros((column(0x00) & 0xb0 * EACH) ^ 0x10 * EACH);
-        let marked = zeros(!column(0x1e) & 0xfe * EACH);
+        let used = zeros((column(0x00) & (0xb0 * EACH)) ^ (0x10 * EACH));
+        let marked = zeros(!column(0x1e) & (0xfe * EACH));
         let mut left = used | marked;
         core::iter::from_fn(move || {
             while left != 0 {
