@@ -7,10 +7,10 @@ use Prim.Native.Nat.{ℕ, zero, suc, _+_, _-_, _*_, _≤_, _<_}
 use native.Mathlib.Omega.{arith}
 use native.Mathlib.Decide.{decLt}
 use lib.Dec.{T, T-not, eqb, leb, ltb, ltb→lt}
-use lib.ListN.{length}
-use lib.Seq.{sets}
+use lib.ListN.{length, set, length-set}
+use lib.Seq.{sets, getD-set-other}
 use Rattle.meaning.specs.Lists.{all, lastOr, times, count}
-use Rattle.meaning.specs.Layout.{granules, taken, takeGranule, freeGranule, hit, hitAt, entryAt, isSlot, field, setField, granuleBytes}
+use Rattle.meaning.specs.Layout.{byte, granules, taken, takeGranule, freeGranule, hit, hitAt, entryAt, isSlot, field, setField, granuleBytes}
 use Rattle.meaning.specs.Bits.{bit, digit}
 use Rattle.meaning.specs.Entries.{block, pairByte, setLink, runs, pairStart, pairLength, system, sizeOf, extension, setPair}
 use Rattle.meaning.specs.Chain.{owned, tail}
@@ -51,8 +51,31 @@ free-slot g d x i = Members.and-l (isSlot g d x) _ (Members.and-l (isSlot g d x 
 -- One granule more ------------------------------------------------------------------------------------------------------------
 
 module _ (u : Kinds) (g : Geometry) (p m : ℕ) where
-  both-run : (d d′ : List ℕ) (e k n : ℕ) → Slot m e → k < 4 → n < granules g → AlikePair u g m d d′ → AlikePair u g m (withPair g d e k n) (withPair g d′ e k n)
-  both-run d d′ e k n t l h w = Stores.both-take u g m _ _ n h (Stores.both-pair u g m d d′ e k _ _ t l w)
+  -- all pairs behind k begin with FFH
+  abbrev Behind : List ℕ → ℕ → ℕ → Type 0
+  Behind d e k = (j : ℕ) → k < j → j < 4 → block g d e j ≡ 0xff
+
+  both-run : (d d′ : List ℕ) (e k n : ℕ) → Slot m e → k < 4 → Behind d e k → n < granules g → AlikePair u g m d d′
+      → AlikePair u g m (withPair g d e k n) (withPair g d′ e k n)
+  both-run d d′ e k n t l ff h w = Stores.both-take u g m _ _ n h (Stores.both-pair u g m d d′ e k _ _ t l ff w)
+
+  new-ff : (e j : ℕ) → j < 4 → byte (newExtension e) (0x16 + 2 * j) ≡ 0xff
+  new-ff e zero h = refl
+  new-ff e (suc zero) h = refl
+  new-ff e (suc (suc zero)) h = refl
+  new-ff e (suc (suc (suc zero))) h = refl
+  new-ff e (suc (suc (suc (suc j)))) h = absurd (omega arith)
+
+  -- a new extension's pairs are FFH
+  new-pairs : (d d′ : List ℕ) (e x : ℕ) → Slot m x → AlikePair u g m d d′ → Behind (withExtension g p d e x) x 0
+  unfolding field setField
+  new-pairs d d′ e x t w j l h =
+      let r = Places.slot g d x (Stores.is-slot u g m d x (w .tall) t) in
+      let long = length-set (set d (entryAt g e + 0x1e) 0xfe) (entryAt g e + 0x1f) x ∙ length-set d (entryAt g e + 0x1e) 0xfe in
+      let fit = Stores.entry-lt g d x 31 (w .fits) (w .dir) (Stores.is-slot u g m d x (w .tall) t) (omega arith) in
+      getD-set-other (sets (setLink g d e 0xfe x) (entryAt g x) (newExtension e)) (hitAt g x) (entryAt g x + (0x16 + 2 * j)) (hit g d p) 0
+      (omega (arith, r .low))
+      ∙ Places.sets-inside (newExtension e) (setLink g d e 0xfe x) (entryAt g x) (0x16 + 2 * j) (omega arith) (omega (arith, long, fit)) ∙ new-ff e j h
 
   both-extension : (d d′ : List ℕ) (e x : ℕ) → Slot m p → Slot m e → Slot m x → AlikePair u g m d d′
       → AlikePair u g m (withExtension g p d e x) (withExtension g p d′ e x)
@@ -69,7 +92,8 @@ module _ (u : Kinds) (g : Geometry) (p m : ℕ) where
   unfolding extended
   both-extended [] d d′ e n r t f h w = BothGrown.neither
   both-extended (x ∷ xs) d d′ e n r t f h w =
-      BothGrown.both (both-run _ _ x 0 n (f x Members.In.here) (omega arith) h (both-extension d d′ e x r t (f x Members.In.here) w))
+      BothGrown.both (both-run _ _ x 0 n (f x Members.In.here) (omega arith) (new-pairs d d′ e x (f x Members.In.here) w) h
+      (both-extension d d′ e x r t (f x Members.In.here) w))
 
   -- one more, with all that is read of the disk in its hands: the last entry, its runs, whether the last one may be lengthened, by which granule and
   -- what stands in its pair; the free slots
@@ -78,17 +102,17 @@ module _ (u : Kinds) (g : Geometry) (p m : ℕ) where
       cond longer (grown (takeGranule g (setField g d e (0x17 + 2 * (r - 1)) (pair + 1)) next))
       (cond (ltb r 4) (grown (withPair g d e r n)) (extended g p slots d e n))
 
-  both-with : (d d′ : List ℕ) (e r : ℕ) (longer : Bool) (next pair : ℕ) (slots : List ℕ) (n : ℕ) → Slot m p → Slot m e → r ≤ 4
+  both-with : (d d′ : List ℕ) (e r : ℕ) (longer : Bool) (next pair : ℕ) (slots : List ℕ) (n : ℕ) → Slot m p → Slot m e → Behind d e r → r ≤ 4
       → (T longer → next < granules g) → ((x : ℕ) → In x slots → Slot m x) → n < granules g → AlikePair u g m d d′
       → BothGrown u g m (takeWith e r longer next pair slots n d) (takeWith e r longer next pair slots n d′)
-  both-with d d′ e r true next pair slots n v t q l f h w =
+  both-with d d′ e r true next pair slots n v t ff q l f h w =
       BothGrown.both (Stores.both-take u g m _ _ next (l tt)
       (Stores.both-field u g m d d′ e (0x17 + 2 * (r - 1)) (pair + 1) t (omega arith) (omega arith) (omega arith) (λ j z. omega arith) w))
-  both-with d d′ e r false next pair slots n v t q l f h w = by (ltb r 4) refl
+  both-with d d′ e r false next pair slots n v t ff q l f h w = by (ltb r 4) refl
     where
       by : (b : Bool) → ltb r 4 ≡ b → BothGrown u g m (cond b (grown (withPair g d e r n)) (extended g p slots d e n))
           (cond b (grown (withPair g d′ e r n)) (extended g p slots d′ e n))
-      by true z = BothGrown.both (both-run d d′ e r n t (ltb→lt r 4 (Members.true-T z)) h w)
+      by true z = BothGrown.both (both-run d d′ e r n t (ltb→lt r 4 (Members.true-T z)) ff h w)
       by false z = both-extended slots d d′ e n v t f h w
 
   module _ (d d′ : List ℕ) (a : ReadAlike u g d d′) (c : Sound g d) (f : IsFile g d p) where
@@ -146,6 +170,11 @@ module _ (u : Kinds) (g : Geometry) (p m : ℕ) where
       a : ReadAlike u g d d′
       a = w .alike
 
+      behind : Behind d (tail g p d) (runs g d (tail g p d))
+      behind j l h =
+          let y = Change.members g d c p (tail g p d) f (Change.tail-in g d c p f) in
+          Change.entry-at g d c (tail g p d) (y .slot) (y .used) .pairs j h (omega arith)
+
       slots : (x : ℕ) → In x (freeSlots g d) → Slot m x
       slots x i = Stores.of-slot u g m d x (w .tall) (free-slot g d x i)
 
@@ -155,7 +184,7 @@ module _ (u : Kinds) (g : Geometry) (p m : ℕ) where
           (λ i. takeWith (tail-same d d′ a c f i) (tail-runs d d′ a c f i) (lengthens-same d d′ a c f q i) (after-same d d′ a c f q i)
           (pair-same d d′ a c f q i) (Reads.freeSlots-same u g d d′ a i) n d′)
           (both-with d d′ (tail g p d) (runs g d (tail g p d)) (lengthens g p d) (after g p d)
-          (pairByte g d (tail g p d) (runs g d (tail g p d) - 1)) (freeSlots g d) n v t (Entry.runs-le g d (tail g p d)) (longer-below d) slots h w)
+          (pairByte g d (tail g p d) (runs g d (tail g p d) - 1)) (freeSlots g d) n v t behind (Entry.runs-le g d (tail g p d)) (longer-below d) slots h w)
       go (no q) =
           let z : runs g d (tail g p d) ≡ 0 = omega arith in
           let e = tail g p d in let r = runs g d (tail g p d) in let xs = freeSlots g d in
@@ -168,7 +197,7 @@ module _ (u : Kinds) (g : Geometry) (p m : ℕ) where
           (freeSlots g d′) n d′)
           (sym (no-longer d′ (sym (tail-runs d d′ a c f) ∙ z))) in
           subst (λ (x : Grown). BothGrown u g m x (takeAt g p n d′)) here (subst (BothGrown u g m (takeWith e r false 0 0 xs n d)) (there ∙ there′)
-          (both-with d d′ e r false 0 0 xs n v t (Entry.runs-le g d e) (λ y. absurd y) slots h w))
+          (both-with d d′ e r false 0 0 xs n v t behind (Entry.runs-le g d e) (λ y. absurd y) slots h w))
 
   -- k more, by a choice that is the same of both
   pub record ChoosesAlike (choice : List ℕ → ℕ) : Type 0 where
@@ -242,12 +271,13 @@ module _ (u : Kinds) (g : Geometry) (p m : ℕ) where
       Stores.both-link u g m _ _ back 0xff 0xff v (Stores.both-link u g m _ _ e 0xff 0xff t
       (Stores.both-hit u g m _ _ e 0 (Stores.not-count u g m d d′ e w t) (Stores.both-flag u g m d d′ e 0x80 t (inr refl) (inl refl) w)))
 
-  both-drop-with : (d d′ : List ℕ) (e k pair : ℕ) (ext : Bool) (back n : ℕ) → Slot m e → (T ext → Slot m back) → k < 4 → n - 1 < granules g
+  both-drop-with : (d d′ : List ℕ) (e k pair : ℕ) (ext : Bool) (back n : ℕ) → Slot m e → (T ext → Slot m back) → k < 4
+      → ((j : ℕ) → k < j → j < 4 → block g d e j ≡ 0xff) → n - 1 < granules g
       → AlikePair u g m d d′ → AlikePair u g m (dropWith e k pair ext back n d) (dropWith e k pair ext back n d′)
-  both-drop-with d d′ e k pair ext back n t v l h w = Stores.both-free u g m _ _ (n - 1) h (by (ltb 1 (pairLength pair)) ext (eqb k 0) v)
+  both-drop-with d d′ e k pair ext back n t v l ff h w = Stores.both-free u g m _ _ (n - 1) h (by (ltb 1 (pairLength pair)) ext (eqb k 0) v)
     where
       emptied : AlikePair u g m (setPair g d e k 0xff 0xff) (setPair g d′ e k 0xff 0xff)
-      emptied = Stores.both-pair u g m d d′ e k 0xff 0xff t l w
+      emptied = Stores.both-pair u g m d d′ e k 0xff 0xff t l ff w
 
       by : (b c z : Bool) → (T c → Slot m back)
           → AlikePair u g m (cond b (setField g d e (0x17 + 2 * k) (pair - 1))
@@ -278,6 +308,9 @@ module _ (u : Kinds) (g : Geometry) (p m : ℕ) where
         let b = DropLast.before-tail g d c p f later .0 in
         Stores.of-slot u g m d (field g d e 1) (w .tall) (Change.members g d c p (field g d e 1) f b .slot)
 
+    behind-last : (j : ℕ) → runs g d e - 1 < j → j < 4 → block g d e j ≡ 0xff
+    behind-last j l h = Change.entry-at g d c e (member .slot) (member .used) .pairs j h (omega arith)
+
     pub both-drop : AlikePair u g m (dropOne g p d) (dropOne g p d′)
     unfolding dropOne
     both-drop =
@@ -290,7 +323,7 @@ module _ (u : Kinds) (g : Geometry) (p m : ℕ) where
         (bit 7 (flag i)) (one i)
         (after-same u g p m d d′ a c f run i) d′)
         (both-drop-with d d′ e (runs g d e - 1) (pairByte g d e (runs g d e - 1)) (extension g d e) (field g d e 1) (after g p d)
-        (Stores.of-slot u g m d e (w .tall) (member .slot)) back-slot (omega (arith, Entry.runs-le g d e, run)) last-below w)
+        (Stores.of-slot u g m d e (w .tall) (member .slot)) back-slot (omega (arith, Entry.runs-le g d e, run)) behind-last last-below w)
 
   -- k granules less, of a file that is larger than its size by so many
   pub both-times : (k : ℕ) (d d′ : List ℕ) → Sound g d → Places.Fits g d → IsFile g d p → T (not (system g d p))

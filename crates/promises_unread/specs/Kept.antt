@@ -10,7 +10,7 @@ use native.Mathlib.Nat.{mod-lt}
 use lib.Dec.{T, eqb, leb, ltb, eqb→eq, ltb→lt}
 use lib.ListN.{length, getD, take, drop, set, length-set}
 use lib.Seq.{getD-set-same, getD-set-other, set-out}
-use borrow.Author.Tests.{eq-eqb, ne-eqb}
+use borrow.Author.Tests.{ne-eqb}
 use Rattle.meaning.specs.Lists.{count, keep, all, any, first}
 use Rattle.meaning.specs.Bits.{bit, digit}
 use Rattle.meaning.specs.Layout.{byte, field, taken, hit, granules, gatAt, hitAt, entryAt, isSlot}
@@ -41,7 +41,7 @@ use Rattle.laws.specs.Places
 use Rattle.laws.specs.Named
 use Rattle.laws.specs.Others
 use Rattle.laws.specs.Passed
-use Rattle.promises_unread.specs.Statement.{Kinds, BytesAlike, EntryAlike, Outside, ReadAlike, Unread, EveryPlace, EverySeries, Apart, EveryCall}
+use Rattle.promises_unread.specs.Statement.{stopped, Kinds, BytesAlike, EntryAlike, Outside, ReadAlike, Unread, EveryPlace, EverySeries, Apart, EveryCall}
 use Rattle.promises_unread.specs.Statement.{EveryDisk}
 use Rattle.promises_unread.specs.Statement.{EveryBack}
 use Rattle.promises_unread.specs.Statement.{EveryPair, EveryLoad}
@@ -58,7 +58,8 @@ bytes-series u f f′ f″ a b = record {
   one = a .one ∙ b .one;
   low = λ k l h q. a .low k l h q ∙ b .low k l h (ap (λ (x : ℕ). u .extensions && bit 7 x) (sym (a .flags)) ∙ q);
   block = λ k h. a .block k h ∙ b .block k h;
-  second = λ k h q. a .second k h q ∙ b .second k h (ap (λ (x : ℕ). u .behind && eqb x 0xff) (sym (a .block k h)) ∙ q);
+  second = λ k h q. a .second k h q ∙ b .second k h
+      (ap (λ (x : Bool). u .behind && x) (Reads.stopped-eq f′ f k (λ j l. sym (a .block j (omega arith)))) ∙ q);
   marker = a .marker ∙ b .marker;
   link = λ q. a .link q ∙ b .link (ap (λ (x : ℕ). u .behind && not (eqb x 0xfe)) (sym (a .marker)) ∙ q);
 }
@@ -161,7 +162,7 @@ module _ (u : Kinds) (g : Geometry) (d : List ℕ) (k : Places.Fits g d) where
   -- a byte of those that no kind reads
   spare : (s j v : ℕ) → j ≢ 0 → j ≢ 1 → j ≢ 0x1e → ((i : ℕ) → i < 4 → j ≢ 0x16 + 2 * i)
       → (2 ≤ j → j < 0x16 → (u .extensions && bit 7 (field g d s 0)) ≡ false → ⊥)
-      → ((i : ℕ) → i < 4 → j ≡ 0x17 + 2 * i → (u .behind && eqb (field g d s (0x16 + 2 * i)) 0xff) ≡ false → ⊥)
+      → ((i : ℕ) → i < 4 → j ≡ 0x17 + 2 * i → (u .behind && stopped (field g d s) i) ≡ false → ⊥)
       → (j ≡ 0x1f → (u .behind && not (eqb (field g d s 0x1e) 0xfe)) ≡ false → ⊥) → EntryAlike u (field g d s) (field g (set d (entryAt g s + j) v) s)
   spare s j v n₀ n₁ n₂ n₃ low second link = record {
     used = ap (bit 4) (same-at s j v 0 (λ q. n₀ (sym q)));
@@ -218,8 +219,8 @@ module _ (u : Kinds) (g : Geometry) (d : List ℕ) (k : Places.Fits g d) where
       (λ a b q. both-true (u .extensions) (bit 7 (field g d s 0)) x e q) (λ i q z w. omega arith) (λ z w. omega arith))
   placed _ _ (Unread.behindBlock s j v t x h e) =
       entered s (0x17 + 2 * j) v t (omega arith) (spare s (0x17 + 2 * j) v (omega arith) (omega arith) (omega arith) (λ i q. omega arith) (λ a b q. omega arith)
-      (λ i q z w. both-true (u .behind) (eqb (field g d s (0x16 + 2 * i)) 0xff) x
-      (let y : i ≡ j = omega arith in subst (λ (n : ℕ). eqb (field g d s (0x16 + 2 * n)) 0xff ≡ true) (sym y) (eq-eqb _ _ e)) w)
+      (λ i q z w. both-true (u .behind) (stopped (field g d s) i) x
+      (let y : i ≡ j = omega arith in subst (λ (n : ℕ). stopped (field g d s) n ≡ true) (sym y) e) w)
       (λ z w. omega arith))
   placed _ _ (Unread.behindMarker s v t x n) =
       entered s 0x1f v t (omega arith) (spare s 0x1f v (omega arith) (omega arith) (omega arith) (λ i q. omega arith) (λ a b q. omega arith)

@@ -47,7 +47,7 @@ use Rattle.laws.specs.Fault as LawsFault
 use Rattle.laws.specs.Frame
 use Rattle.laws.specs.Kinds as LawsKinds
 use Rattle.laws.specs.Walk
-use Rattle.promises_unread.specs.Statement.{Kinds, BytesAlike, EntryAlike, ReadAlike}
+use Rattle.promises_unread.specs.Statement.{stopped, Kinds, BytesAlike, EntryAlike, ReadAlike}
 
 -- a test made only where an earlier one failed
 pub unless : {A : Type 0} (b : Bool) (z x y : A) → (b ≡ false → x ≡ y) → cond b z x ≡ cond b z y
@@ -108,6 +108,18 @@ pub some-eq : (p q : ℕ → Bool) (xs : List ℕ) → ((x : ℕ) → In x xs �
 some-eq p q [] f = refl
 some-eq p q (x ∷ xs) f =
     let e = f x Members.In.here in let r = some-eq p q xs (λ y j. f y (Members.In.there j)) in λ i. e i || r i
+
+-- no pair up to k begins with FFH
+pub not-stopped : (f : ℕ → ℕ) (k : ℕ) → ((j : ℕ) → j < k + 1 → f (0x16 + 2 * j) ≢ 0xff) → stopped f k ≡ false
+unfolding stopped
+not-stopped f k h = Members.no-false (λ t.
+    let x = LawsKinds.some-in (λ j. eqb (f (0x16 + 2 * j)) 0xff) (count 0 (k + 1)) t in
+    h (x .0) (omega (arith, Members.count-in (x .0) 0 (k + 1) (x .1))) (eqb→eq _ _ (x .2)))
+
+-- it hangs on the blocks up to there alone
+pub stopped-eq : (f f′ : ℕ → ℕ) (k : ℕ) → ((j : ℕ) → j < k + 1 → f (0x16 + 2 * j) ≡ f′ (0x16 + 2 * j)) → stopped f k ≡ stopped f′ k
+unfolding stopped
+stopped-eq f f′ k h = some-eq _ _ (count 0 (k + 1)) (λ j i. ap (λ (x : ℕ). eqb x 0xff) (h j (omega (arith, Members.count-in j 0 (k + 1) i))))
 
 -- the place of the entry of any number, as that of a slot's: row and sector from 0 to 7 and 0 to 31
 at-slot : (start r q : ℕ) → r + q / 8 < 32
@@ -178,10 +190,6 @@ module _ (u : Kinds) (g : Geometry) (d d′ : List ℕ) (a : ReadAlike u g d d�
   pub block-at : (s k : ℕ) → Live s → k < 4 → block g d s k ≡ block g d′ s k
   block-at s k v h = bytes-at s v .block k h
 
-  -- of a pair that does not begin with FFH
-  pub second-at : (s k : ℕ) → Live s → k < 4 → block g d s k ≢ 0xff → pairByte g d s k ≡ pairByte g d′ s k
-  second-at s k v h n = bytes-at s v .second k h (and-no (u .behind) (eqb (block g d s k) 0xff) (ne-eqb (block g d s k) 0xff n))
-
   -- of a marker FEH
   pub link-at : (s : ℕ) → Live s → eqb (marker g d s) 0xfe ≡ true → link g d s ≡ link g d′ s
   link-at s v e = bytes-at s v .link (and-no (u .behind) (not (eqb (marker g d s) 0xfe)) (ap not e))
@@ -238,7 +246,9 @@ module _ (u : Kinds) (g : Geometry) (d d′ : List ℕ) (a : ReadAlike u g d d�
 
   -- the bytes of a run's pair
   pub run-at : (s k : ℕ) → Live s → k < runs g d s → pairByte g d s k ≡ pairByte g d′ s k
-  run-at s k v h = second-at s k v (omega (arith, Entry.runs-le g d s)) (Entry.runs-has g d s k h)
+  run-at s k v h =
+      bytes-at s v .second k (omega (arith, Entry.runs-le g d s)) (and-no (u .behind) (stopped (field g d s) k) (not-stopped (field g d s) k (λ j l.
+      Entry.runs-has g d s j (omega arith))))
 
   pub run-block : (s k : ℕ) → Live s → k < runs g d s → block g d s k ≡ block g d′ s k
   run-block s k v h = block-at s k v (omega (arith, Entry.runs-le g d s))

@@ -11,10 +11,10 @@ use mathlib.Core.List.{List}
 use Prim.Native.Nat.{ℕ, _+_, _*_, _≤_, _<_}
 use lib.Dec.{T, eqb}
 use lib.ListN.{length, set}
-use Rattle.meaning.specs.Lists.{In}
+use Rattle.meaning.specs.Lists.{In, some, count}
 use Rattle.meaning.specs.Bits.{bit, digit}
 use Rattle.meaning.specs.Layout.{fitsGeometry, hitAt, entryAt, field, byte, granules, taken, aboveTen, isSlot, hit, directoryGranules}
-use Rattle.meaning.specs.Entries.{inUse, system, extension, block, marker}
+use Rattle.meaning.specs.Entries.{inUse, system, extension, marker}
 use Rattle.meaning.specs.Chain.{owned}
 use Rattle.meaning.specs.Consistent.{consistent}
 use Rattle.meaning.specs.Refusals.{check}
@@ -40,10 +40,14 @@ use Rattle.load.specs.Load.{loadRecord}
 pub record Kinds : Type 0 where
   -- an extension's bytes 02 to 15
   pub extensions : Bool
-  -- what stands behind FFH: the second byte of a pair that begins with it, and the link behind a marker that is not FEH
+  -- what stands behind FFH: the second byte of a pair that begins with it or comes after one, and the link behind a marker that is not FEH
   pub behind : Bool
   -- dead entries: all but bit 4 of their flags
   pub dead : Bool
+
+-- pair k of an entry begins with FFH, or one before it does: "Block FFH ends the list"
+unfoldable pub stopped : (ℕ → ℕ) → ℕ → Bool
+stopped f k = some (λ j. eqb (f (0x16 + 2 * j)) 0xff) (count 0 (k + 1))
 
 -- An entry on the one image and on the other, by its bytes
 pub record BytesAlike (u : Kinds) (f f′ : ℕ → ℕ) : Type 0 where
@@ -52,9 +56,9 @@ pub record BytesAlike (u : Kinds) (f f′ : ℕ → ℕ) : Type 0 where
   pub one : f 1 ≡ f′ 1
   -- "Extension: … 02 to 15 zero": 01 says so of a new one, and no test asks for it
   pub low : (k : ℕ) → 2 ≤ k → k < 0x16 → (u .extensions && bit 7 (f 0)) ≡ false → f k ≡ f′ k
-  -- the four pairs; "Block FFH ends the list"
+  -- the four pairs
   pub block : (k : ℕ) → k < 4 → f (0x16 + 2 * k) ≡ f′ (0x16 + 2 * k)
-  pub second : (k : ℕ) → k < 4 → (u .behind && eqb (f (0x16 + 2 * k)) 0xff) ≡ false → f (0x17 + 2 * k) ≡ f′ (0x17 + 2 * k)
+  pub second : (k : ℕ) → k < 4 → (u .behind && stopped f k) ≡ false → f (0x17 + 2 * k) ≡ f′ (0x17 + 2 * k)
   -- "Marker FFH: no extension. FEH: the link is its slot."
   pub marker : f 0x1e ≡ f′ 0x1e
   pub link : (u .behind && not (eqb (f 0x1e) 0xfe)) ≡ false → f 0x1f ≡ f′ 0x1f
@@ -92,8 +96,9 @@ pub data Unread (u : Kinds) (g : Geometry) (d : List ℕ) : ℕ → ℕ → Type
   noSlot : (s v : ℕ) → s < 256 → s ≢ 0x1f → isSlot g d s ≡ false → Unread u g d (hitAt g s) v
   -- one of an extension's bytes 02 to 15
   ofExtension : (s k v : ℕ) → T (isSlot g d s) → u .extensions ≡ true → extension g d s ≡ true → 2 ≤ k → k < 0x16 → Unread u g d (entryAt g s + k) v
-  -- the second byte of a pair that begins with FFH
-  behindBlock : (s k v : ℕ) → T (isSlot g d s) → u .behind ≡ true → k < 4 → block g d s k ≡ 0xff → Unread u g d (entryAt g s + (0x17 + 2 * k)) v
+  -- the second byte of a pair that begins with FFH, or comes after one that does
+  behindBlock : (s k v : ℕ) → T (isSlot g d s) → u .behind ≡ true → k < 4 → stopped (field g d s) k ≡ true
+      → Unread u g d (entryAt g s + (0x17 + 2 * k)) v
   -- the link behind a marker that is not FEH
   behindMarker : (s v : ℕ) → T (isSlot g d s) → u .behind ≡ true → marker g d s ≢ 0xfe → Unread u g d (entryAt g s + 0x1f) v
   -- any byte of a dead entry, bit 4 of its flags as it was

@@ -16,17 +16,18 @@ use Rattle.meaning.specs.Lists.{all, through}
 use Rattle.meaning.specs.Bits.{bit, putDigit}
 use Rattle.meaning.specs.Layout.{byte, granules, taken, takeGranule, freeGranule, gatAt, hitAt, entryAt, hit, aboveTen, isSlot, field, setField}
 use Rattle.meaning.specs.Layout.{directorySectors, sector}
-use Rattle.meaning.specs.Entries.{setPair, setLink}
+use Rattle.meaning.specs.Entries.{block, setPair, setLink}
 use Rattle.meaning.specs.Write.{store}
 use Rattle.meaning.specs.declared.Geometry.{Geometry}
 use Rattle.lists.specs.Members
 use Rattle.lists.specs.Members.{In}
 use Rattle.lists.specs.Tests
 use Rattle.laws.specs.Frame
+use Rattle.laws.specs.Kinds as LawsKinds
 use Rattle.laws.specs.Places
 use Rattle.laws.specs.Words.{words}
-use Rattle.promises_unread.specs.Statement.{Kinds, BytesAlike, EntryAlike, Outside, ReadAlike}
-use Rattle.promises_unread.specs.Reads.{whole-alike, one-slot}
+use Rattle.promises_unread.specs.Statement.{stopped, Kinds, BytesAlike, EntryAlike, Outside, ReadAlike}
+use Rattle.promises_unread.specs.Reads.{whole-alike, one-slot, stopped-eq}
 
 -- Two images that are alike, of a geometry that fits them, with a directory that fits, of 10 sectors and m
 pub record AlikePair (u : Kinds) (g : Geometry) (m : ℕ) (d d′ : List ℕ) : Type 0 where
@@ -47,7 +48,9 @@ carry-bytes u f f′ h h′ e e′ a = record {
   low = λ j l m q. e j (omega arith) ∙ a .low j l m (rw (e 0 (omega arith)) at q) ∙ sym (e′ j (omega arith));
   block = λ j m. e (0x16 + 2 * j) (omega arith) ∙ a .block j m ∙ sym (e′ (0x16 + 2 * j) (omega arith));
   second = λ j m q.
-      e (0x17 + 2 * j) (omega arith) ∙ a .second j m (rw (e (0x16 + 2 * j) (omega arith)) at q) ∙ sym (e′ (0x17 + 2 * j) (omega arith));
+      e (0x17 + 2 * j) (omega arith)
+      ∙ a .second j m (ap (λ (b : Bool). u .behind && b) (stopped-eq f h j (λ i l. sym (e (0x16 + 2 * i) (omega arith)))) ∙ q)
+      ∙ sym (e′ (0x17 + 2 * j) (omega arith));
   marker = e 0x1e (omega arith) ∙ a .marker ∙ sym (e′ 0x1e (omega arith));
   link = λ q. e 0x1f (omega arith) ∙ a .link (rw (e 0x1e (omega arith)) at q) ∙ sym (e′ 0x1f (omega arith));
 }
@@ -79,7 +82,17 @@ put-eq : (f f′ : ℕ → ℕ) (k v j : ℕ) → f j ≡ f′ j → put f k v j
 unfolding put
 put-eq f f′ k v j e = λ i. cond (eqb j k) v (e i)
 
+stops : (f : ℕ → ℕ) (i j : ℕ) → i < j + 1 → f (0x16 + 2 * i) ≡ 0xff → stopped f j ≡ true
+unfolding stopped
+stops f i j l e =
+    Members.T-true (LawsKinds.in-some (λ k. eqb (f (0x16 + 2 * k)) 0xff) (Members.in-count i 0 (j + 1) (omega arith) (omega arith)) (Members.eq-T e))
+
 module _ (u : Kinds) (f f′ : ℕ → ℕ) (a : BytesAlike u f f′) where
+  -- blocks as they were
+  before : (j : ℕ) (h : ℕ → ℕ) → ((i : ℕ) → i < j + 1 → h (0x16 + 2 * i) ≡ f (0x16 + 2 * i)) → (u .behind && stopped h j) ≡ false
+      → (u .behind && stopped f j) ≡ false
+  before j h e q = ap (λ (b : Bool). u .behind && b) (stopped-eq f h j (λ i l. sym (e i l))) ∙ q
+
   -- a byte on which nothing hangs that is read
   pub put-simple : (k v : ℕ) → k ≢ 0 → k ≢ 0x1e → ((j : ℕ) → j < 4 → k ≢ 0x16 + 2 * j) → BytesAlike u (put f k v) (put f′ k v)
   put-simple k v n m b = record {
@@ -87,7 +100,9 @@ module _ (u : Kinds) (f f′ : ℕ → ℕ) (a : BytesAlike u f f′) where
     one = put-eq f f′ k v 1 (a .one);
     low = λ j l h q. put-eq f f′ k v j (a .low j l h (rw (put-other f k v 0 (λ z. n (sym z))) at q));
     block = λ j h. put-eq f f′ k v (0x16 + 2 * j) (a .block j h);
-    second = λ j h q. let w = b j h in put-eq f f′ k v (0x17 + 2 * j) (a .second j h (rw (put-other f k v (0x16 + 2 * j) (λ z. w (sym z))) at q));
+    second =
+        λ j h q. put-eq f f′ k v (0x17 + 2 * j)
+        (a .second j h (before j (put f k v) (λ i l. let w = b i (omega arith) in put-other f k v (0x16 + 2 * i) (λ z. w (sym z))) q));
     marker = put-eq f f′ k v 0x1e (a .marker);
     link = λ q. put-eq f f′ k v 0x1f (a .link (rw (put-other f k v 0x1e (λ z. m (sym z))) at q));
   }
@@ -99,7 +114,7 @@ module _ (u : Kinds) (f f′ : ℕ → ℕ) (a : BytesAlike u f f′) where
     one = put-eq f f′ 0 v 1 (a .one);
     low = λ j l h q. put-eq f f′ 0 v j (a .low j l h (free (u .extensions) (bit 7 (f 0)) e (rw (put-same f 0 v) at q)));
     block = λ j h. put-eq f f′ 0 v (0x16 + 2 * j) (a .block j h);
-    second = λ j h q. put-eq f f′ 0 v (0x17 + 2 * j) (a .second j h (rw (put-other f 0 v (0x16 + 2 * j) (omega arith)) at q));
+    second = λ j h q. put-eq f f′ 0 v (0x17 + 2 * j) (a .second j h (before j (put f 0 v) (λ i l. put-other f 0 v (0x16 + 2 * i) (omega arith)) q));
     marker = put-eq f f′ 0 v 0x1e (a .marker);
     link = λ q. put-eq f f′ 0 v 0x1f (a .link (rw (put-other f 0 v 0x1e (omega arith)) at q));
   }
@@ -109,32 +124,42 @@ module _ (u : Kinds) (f f′ : ℕ → ℕ) (a : BytesAlike u f f′) where
       free true c (inr q) z = Tests.not-both q z
       free false c q z = refl
 
-  -- both bytes of a pair
-  pub put-pair : (k v w : ℕ) → k < 4 → BytesAlike u (put (put f (0x16 + 2 * k) v) (0x17 + 2 * k) w) (put (put f′ (0x16 + 2 * k) v) (0x17 + 2 * k) w)
-  put-pair k v w h = record {
+  -- both bytes of a pair behind which all begin with FFH
+  pub put-pair : (k v w : ℕ) → k < 4 → ((j : ℕ) → k < j → j < 4 → f (0x16 + 2 * j) ≡ 0xff)
+      → BytesAlike u (put (put f (0x16 + 2 * k) v) (0x17 + 2 * k) w) (put (put f′ (0x16 + 2 * k) v) (0x17 + 2 * k) w)
+  put-pair k v w h ff = record {
     flags = twice 0 (a .flags);
     one = twice 1 (a .one);
     low = λ j l m q. twice j (a .low j l m (rw (away 0 (omega arith) (omega arith)) at q));
     block = λ j m. twice (0x16 + 2 * j) (a .block j m);
-    second = λ j m q. by j m q (ℕ-discrete j k);
+    second = λ j m q. by j m q (ℕ-discrete j k) (decLt j k);
     marker = twice 0x1e (a .marker);
     link = λ q. twice 0x1f (a .link (rw (away 0x1e (omega arith) (omega arith)) at q));
   }
     where
-      f₂ : ℕ → ℕ
-      f₂ = put (put f (0x16 + 2 * k) v) (0x17 + 2 * k) w
-
       twice : (j : ℕ) → f j ≡ f′ j → put (put f (0x16 + 2 * k) v) (0x17 + 2 * k) w j ≡ put (put f′ (0x16 + 2 * k) v) (0x17 + 2 * k) w j
       twice j e = put-eq (put f (0x16 + 2 * k) v) (put f′ (0x16 + 2 * k) v) (0x17 + 2 * k) w j (put-eq f f′ (0x16 + 2 * k) v j e)
 
       away : (j : ℕ) → j ≢ 0x16 + 2 * k → j ≢ 0x17 + 2 * k → put (put f (0x16 + 2 * k) v) (0x17 + 2 * k) w j ≡ f j
       away j n m = put-other (put f (0x16 + 2 * k) v) (0x17 + 2 * k) w j m ∙ put-other f (0x16 + 2 * k) v j n
 
-      by : (j : ℕ) → j < 4 → (u .behind && eqb (put (put f (0x16 + 2 * k) v) (0x17 + 2 * k) w (0x16 + 2 * j)) 0xff) ≡ false → Dec (j ≡ k)
+      -- a later pair begins with FFH, before and after
+      later : (j : ℕ) → k < j → j < 4 → (u .behind && stopped (put (put f (0x16 + 2 * k) v) (0x17 + 2 * k) w) j) ≡ false → (u .behind && stopped f j) ≡ false
+      later j l m q = free (u .behind) (stopped (put (put f (0x16 + 2 * k) v) (0x17 + 2 * k) w) j) (stopped f j) q
+          (stops _ j j (omega arith) (away (0x16 + 2 * j) (omega arith) (omega arith) ∙ ff j l m))
+        where
+          free : (b c z : Bool) → (b && c) ≡ false → c ≡ true → (b && z) ≡ false
+          free true c z y x = Tests.not-both x y
+          free false c z y x = refl
+
+      by : (j : ℕ) → j < 4 → (u .behind && stopped (put (put f (0x16 + 2 * k) v) (0x17 + 2 * k) w) j) ≡ false → Dec (j ≡ k) → Dec (j < k)
           → put (put f (0x16 + 2 * k) v) (0x17 + 2 * k) w (0x17 + 2 * j) ≡ put (put f′ (0x16 + 2 * k) v) (0x17 + 2 * k) w (0x17 + 2 * j)
-      by j m q (yes e) =
+      by j m q (yes e) l =
           rw e (put-same (put f (0x16 + 2 * k) v) (0x17 + 2 * k) w ∙ sym (put-same (put f′ (0x16 + 2 * k) v) (0x17 + 2 * k) w))
-      by j m q (no n) = twice (0x17 + 2 * j) (a .second j m (rw (away (0x16 + 2 * j) (λ z. n (omega arith)) (omega arith)) at q))
+      by j m q (no n) (yes l) =
+          twice (0x17 + 2 * j) (a .second j m
+          (before j (put (put f (0x16 + 2 * k) v) (0x17 + 2 * k) w) (λ i z. away (0x16 + 2 * i) (omega arith) (omega arith)) q))
+      by j m q (no n) (no l) = twice (0x17 + 2 * j) (a .second j m (later j (omega arith) m q))
 
   -- marker and link
   pub put-link : (v w : ℕ) → BytesAlike u (put (put f 0x1e v) 0x1f w) (put (put f′ 0x1e v) 0x1f w)
@@ -143,7 +168,7 @@ module _ (u : Kinds) (f f′ : ℕ → ℕ) (a : BytesAlike u f f′) where
     one = twice 1 (a .one);
     low = λ j l m q. twice j (a .low j l m (rw (away 0 (omega arith) (omega arith)) at q));
     block = λ j m. twice (0x16 + 2 * j) (a .block j m);
-    second = λ j m q. twice (0x17 + 2 * j) (a .second j m (rw (away (0x16 + 2 * j) (omega arith) (omega arith)) at q));
+    second = λ j m q. twice (0x17 + 2 * j) (a .second j m (before j (put (put f 0x1e v) 0x1f w) (λ i z. away (0x16 + 2 * i) (omega arith) (omega arith)) q));
     marker = twice 0x1e (a .marker);
     link = λ q. put-same (put f 0x1e v) 0x1f w ∙ sym (put-same (put f′ 0x1e v) 0x1f w);
   }
@@ -415,13 +440,14 @@ module _ (u : Kinds) (g : Geometry) (m : ℕ) where
       → AlikePair u g m (setField g d s 0 v) (setField g d′ s 0 v)
   both-flag d d′ s v t e o w = both-wrote s _ d d′ _ _ t (wrote-one s 0 v d (omega arith)) (wrote-one s 0 v d′ (omega arith)) (λ a. entry-flags u _ _ v e o a) w
 
-  -- a pair
-  pub both-pair : (d d′ : List ℕ) (s k x y : ℕ) → Slot m s → k < 4 → AlikePair u g m d d′ → AlikePair u g m (setPair g d s k x y) (setPair g d′ s k x y)
-  both-pair d d′ s k x y t h w =
+  -- a pair behind which all begin with FFH
+  pub both-pair : (d d′ : List ℕ) (s k x y : ℕ) → Slot m s → k < 4 → ((j : ℕ) → k < j → j < 4 → block g d s j ≡ 0xff) → AlikePair u g m d d′
+      → AlikePair u g m (setPair g d s k x y) (setPair g d′ s k x y)
+  both-pair d d′ s k x y t h ff w =
       both-wrote s _ d d′ _ _ t (wrote-two s (0x16 + 2 * k) x (0x17 + 2 * k) y d (omega arith) (omega arith))
       (wrote-two s (0x16 + 2 * k) x (0x17 + 2 * k) y d′ (omega arith) (omega arith)) (λ a.
       entry-put u _ _ (λ f. put (put f (0x16 + 2 * k) x) (0x17 + 2 * k) y) (twice-other _ _ x _ y (omega arith) (omega arith))
-      (twice-other _ _ x _ y (omega arith) (omega arith)) (λ c. put-pair u _ _ c k x y h) a) w
+      (twice-other _ _ x _ y (omega arith) (omega arith)) (λ c. put-pair u _ _ c k x y h ff) a) w
 
   -- marker and link
   pub both-link : (d d′ : List ℕ) (s x y : ℕ) → Slot m s → AlikePair u g m d d′ → AlikePair u g m (setLink g d s x y) (setLink g d′ s x y)
