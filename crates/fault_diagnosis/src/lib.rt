@@ -12,6 +12,7 @@ ghost use Rattle.meaning.specs.Refusals.{check};
 ghost use Rattle.layout.specs.Room.{Room, Slot};
 ghost use Rattle.check_whole.specs.Slots.{FitsImage};
 ghost use Rattle.fault_clear.specs.Clear.{NamesClear, RunsClear};
+ghost use Rattle.fault_kinds.specs.Noted.{Filed, Told};
 ghost use Rattle.fault_diagnosis.specs.Told.{hashDiffers, sameFile, faultIn, afterSlots};
 
 // A slot's HIT byte is nonzero exactly if its entry is in use.
@@ -28,19 +29,19 @@ fn hit_holds(image: &[u8], g: Geometry, s: usize) -> bool
 }
 
 // Whether the HIT byte is not the hash of the name of the entry's file.
-fn hash_differs(image: &[u8], g: Geometry, s: usize) -> bool
-    requires { ⌜ Room g (now image) × Slot g (now image) s ⌝ }
+fn hash_differs(image: &[u8], g: Geometry, files: &[u8], s: usize) -> bool
+    requires { ⌜ Room g (now image) × Slot g (now image) s × Filed g (now image) (now files) ⌝ }
     ensures { λ r. ⌜ r ≡ hashDiffers g (now (image .entry)) s ⌝ }
 {
-    let p = fault_kinds::file_of(image, g, s);
+    let p = fault_kinds::file_of(image, g, files, s);
     let a = 256 * (g.start + 2 + p % 32) + 32 * (p / 32) + 5;
     let e = a + 11;
     let h = name_hash::hash(&image[a..e]);
     layout::hit(image, g, s) != h
 }
 
-fn hit_fault(image: &[u8], g: Geometry, s: usize) -> bool
-    requires { ⌜ Room g (now image) × Slot g (now image) s ⌝ }
+fn hit_fault(image: &[u8], g: Geometry, files: &[u8], goods: &[u8], s: usize) -> bool
+    requires { ⌜ Room g (now image) × Slot g (now image) s × Filed g (now image) (now files) × Told g (now image) (now goods) ⌝ }
     ensures { λ r. ⌜ r ≡ hitFault g (now (image .entry)) s ⌝ }
 {
     if !hit_holds(image, g, s) {
@@ -49,10 +50,10 @@ fn hit_fault(image: &[u8], g: Geometry, s: usize) -> bool
     if !layout::flag(image, g, s, layout::IN_USE) {
         return false;
     }
-    if !fault_kinds::linked(image, g, s) {
+    if !fault_kinds::linked(image, g, goods, s) {
         return false;
     }
-    hash_differs(image, g, s)
+    hash_differs(image, g, files, s)
 }
 
 fn name_fault(image: &[u8], g: Geometry, p: usize) -> bool
@@ -147,11 +148,20 @@ fn shared_fault(image: &[u8], g: Geometry, s: usize, clear: usize) -> bool
 
 // The first kind at a slot, in 02's order; 0 where there is none. Slots below `names` are clear of duplicate names, those below `runs` of the
 // kinds of runs.
-fn fault_at(image: &[u8], g: Geometry, s: usize, names: usize, runs: usize) -> u8
-    requires { ⌜ Room g (now image) × Slot g (now image) s × NamesClear g (now image) names × RunsClear g (now image) runs ⌝ }
+fn fault_at(
+    image: &[u8],
+    g: Geometry,
+    files: &[u8],
+    goods: &[u8],
+    s: usize,
+    names: usize,
+    runs: usize,
+) -> u8
+    requires { ⌜ Room g (now image) × Slot g (now image) s × NamesClear g (now image) names × RunsClear g (now image) runs
+        × Filed g (now image) (now files) × Told g (now image) (now goods) ⌝ }
     ensures { λ r. ⌜ r ≡ faultAt g (now (image .entry)) s ⌝ }
 {
-    if hit_fault(image, g, s) {
+    if hit_fault(image, g, files, goods, s) {
         return 22;
     }
     if name_fault(image, g, s) {
@@ -160,7 +170,7 @@ fn fault_at(image: &[u8], g: Geometry, s: usize, names: usize, runs: usize) -> u
     if duplicate_fault(image, g, s, names) {
         return 24;
     }
-    if fault_kinds::chain_fault(image, g, s) {
+    if fault_kinds::chain_fault(image, g, goods, s) {
         return 25;
     }
     if run_fault(image, g, s, runs) {
@@ -172,24 +182,33 @@ fn fault_at(image: &[u8], g: Geometry, s: usize, names: usize, runs: usize) -> u
     if shared_fault(image, g, s, runs) {
         return 28;
     }
-    if fault_kinds::size_fault(image, g, s) {
+    if fault_kinds::size_fault(image, g, goods, s) {
         return 29;
     }
-    if fault_kinds::directory_fault(image, g, s) {
+    if fault_kinds::directory_fault(image, g, files, s) {
         return 30;
     }
     0
 }
 
 // The same, 0 where the directory has no slot s.
-fn fault_in(image: &[u8], g: Geometry, s: usize, names: usize, runs: usize) -> u8
-    requires { ⌜ Room g (now image) × NamesClear g (now image) names × RunsClear g (now image) runs ⌝ }
+fn fault_in(
+    image: &[u8],
+    g: Geometry,
+    files: &[u8],
+    goods: &[u8],
+    s: usize,
+    names: usize,
+    runs: usize,
+) -> u8
+    requires { ⌜ Room g (now image) × NamesClear g (now image) names × RunsClear g (now image) runs
+        × Filed g (now image) (now files) × Told g (now image) (now goods) ⌝ }
     ensures { λ r. ⌜ r ≡ faultIn g (now (image .entry)) s ⌝ }
 {
     if !layout::is_slot(image, g, s) {
         return 0;
     }
-    fault_at(image, g, s, names, runs)
+    fault_at(image, g, files, goods, s, names, runs)
 }
 
 // What is told where no slot is at fault.
@@ -212,9 +231,13 @@ fn slots_fault(image: &[u8], g: Geometry) -> Refusal
 {
     let names = fault_clear::names_clear(image, g);
     let runs = fault_clear::runs_clear(image, g);
+    let mut files = [0u8; 256];
+    fault_kinds::note_files(image, g, &mut files);
+    let mut goods = [0u8; 256];
+    fault_kinds::note_goods(image, g, &files, &mut goods);
     let mut s = 0;
     while s < 256 {
-        let n = fault_in(image, g, s, names, runs);
+        let n = fault_in(image, g, &files, &goods, s, names, runs);
         if n != 0 {
             return Refusal {
                 number: n,

@@ -2,19 +2,18 @@
 use mathlib.Core.Path.{_≡_, refl, sym, ap, ap₂, _∙_, subst}
 use mathlib.Core.List.{List, [], _∷_}
 use mathlib.Core.Bool.{Bool, true, false, not, _&&_, and-true}
-use mathlib.Core.Logic.{_⊎_, inl, inr}
-use Prim.Native.Nat.{ℕ, zero, suc, _-_, _/_, _≤_, _<_}
+use Prim.Native.Nat.{ℕ, _-_, _/_, _≤_, _<_}
 use native.Mathlib.Omega.{arith}
 use native.Mathlib.Nat.{zero-add}
-use lib.Dec.{T, eqb, ltb, ltb→lt, lt→ltb, T-not}
+use lib.Dec.{T, eqb, ltb, ltb→lt, lt→ltb}
 use lib.ListN.{length}
 use Rattle.meaning.specs.Lists.{count, every, some, has, keep, all, firstOr}
 use Rattle.meaning.specs.Layout.{isSlot, slots, directorySectors, directoryGranules, granuleSectors, roundUp}
 use Rattle.lists.specs.Sizes
-use Rattle.meaning.specs.Entries.{inUse, inUsePrimary, extension, runs, link, runStart, runLength, runGranules, entryGranules}
+use Rattle.meaning.specs.Entries.{inUse, inUsePrimary, runs, link, runStart, runLength, runGranules, entryGranules}
 use Rattle.meaning.specs.Chain.{chain, files}
 use Rattle.meaning.specs.Consistent.{followsBy}
-use Rattle.meaning.specs.Fault.{handsOn, walkFrom, walk, walked, metFrom, fileOf, goodExtension, chainFault, chainWhole}
+use Rattle.meaning.specs.Fault.{handsOn, walk, walked, metFrom, fileOf, goodExtension, chainFault, chainWhole}
 use Rattle.meaning.specs.declared.Geometry.{Geometry}
 use Rattle.layout.specs.Room.{Room, Slot}
 use Rattle.lists.specs.Tests.{all-at}
@@ -102,36 +101,6 @@ module _ (g : Geometry) (d : List ℕ) where
       by (p ∷ ps) e =
           let k = low x p (subst (In p) (sym e) Members.In.here) in
           Met.one p (first-is x (p ∷ ps) e ∙ or-some 256 p ps) (file-is x (p ∷ ps) e ∙ or-some x p ps) (k .0) (k .1)
-
-  -- a walk meets its file and extensions
-  meets-extensions : (left : ℕ) (before : List ℕ) (q s : ℕ) → In s (walkFrom g d left before q) → (s ≡ q) ⊎ T (extension g d s)
-  unfolding walkFrom
-  meets-extensions zero before q s i = Members.none-in i
-  meets-extensions (suc left) before q s i = go (Walk.walk-cons g d left before q s i) (meets-extensions left (q ∷ before) (link g d q) s)
-    where
-      on : T (handsOn g d q) → (s ≡ link g d q) ⊎ T (extension g d s) → (s ≡ q) ⊎ T (extension g d s)
-      on h (inl e) = inr (rw e (Walk.hands-says g d q h .extends))
-      on h (inr t) = inr t
-
-      go : (s ≡ q) ⊎ (T (handsOn g d q) × In s (walkFrom g d left (q ∷ before) (link g d q)))
-          → (In s (walkFrom g d left (q ∷ before) (link g d q)) → (s ≡ link g d q) ⊎ T (extension g d s)) → (s ≡ q) ⊎ T (extension g d s)
-      go (inl e) r = inl e
-      go (inr j) r = on (j .0) (r (j .1))
-
-  -- a primary entry is its own file
-  pub file-self : (s : ℕ) → Slot g d s → inUsePrimary g d s ≡ true → s ≡ fileOf g d s
-  unfolding walk
-  file-self s h p = by (meets-extensions (length (slots g d)) [] (fileOf g d s) s (k .1))
-    where
-      f : IsFile g d s
-      f = file-of s (slot-yes g d s (h .low) (h .held)) p
-
-      k : IsFile g d (fileOf g d s) × In s (walk g d (fileOf g d s))
-      k = Kinds.fileOf-is g d s s f (Walk.walk-first g d s f)
-
-      by : (s ≡ fileOf g d s) ⊎ T (extension g d s) → s ≡ fileOf g d s
-      by (inl e) = e
-      by (inr t) = absurd (T-not (extension g d s) (Members.and-r (inUse g d s) (not (extension g d s)) (Members.true-T p)) t)
 
   pub first-file : (x : ℕ) → firstFile g d x < 256 → (firstFile g d x ≡ fileOf g d x) × Slot g d (firstFile g d x)
   first-file x h = by (met x)

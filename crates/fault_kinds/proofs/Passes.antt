@@ -141,21 +141,6 @@ module _ (g : Geometry) (d : List ℕ) where
   pub hands-slot : {t : ℕ} (s : ℕ) → handsOn g d s ≡ true → t ≡ link g d s → Slot g d t
   hands-slot s h e = rw e (slot-of g d (link g d s) (Members.T-true (Walk.hands-says g d s (Members.true-T h) .next .slot)))
 
-  module _ (n p left s x : ℕ) (i : has (reach g d n p) x ≡ has (reach g d left s) x) where
-    pub come-here : 0 < left → x ≡ s → true ≡ has (reach g d n p) x
-    come-here h e =
-        sym (i ∙ ap (λ (l : List ℕ). has l x) (reach-more s h) ∙ ap (λ (b : Bool). b || has (cond (handsOn g d s) (reach g d (left - 1) (link g d s)) []) x)
-        (eq-eqb x s e))
-
-    pub come-stop : 0 < left → (x ≡ s → ⊥) → handsOn g d s ≡ false → false ≡ has (reach g d n p) x
-    come-stop h e f = sym (i ∙ ap (λ (l : List ℕ). has l x) (reach-stop s h f) ∙ ap (λ (b : Bool). b || false) (ne-eqb x s e))
-
-    pub come-on : {t : ℕ} → 0 < left → (x ≡ s → ⊥) → handsOn g d s ≡ true → t ≡ link g d s → has (reach g d n p) x ≡ has (reach g d (left - 1) t) x
-    come-on {t} h e f q = i ∙ ap (λ (l : List ℕ). has l x) (reach-on s h f q) ∙ ap (λ (b : Bool). b || has (reach g d (left - 1) t) x) (ne-eqb x s e)
-
-    pub come-none : left ≤ 0 → false ≡ has (reach g d n p) x
-    come-none h = sym (i ∙ ap (λ (l : List ℕ). has l x) (reach-none s h))
-
   abbrev pub firm : ℕ → Bool
   firm s = not (chainFault g d s)
 
@@ -195,20 +180,6 @@ module _ (g : Geometry) (d : List ℕ) where
 
     pub count-none′ : left ≤ 0 → c ≡ size (reach g d n p)
     count-none′ h = let q : size (reach g d left s) ≡ 0 = ap {B = ℕ} size (reach-none s h) in omega (arith, i, q)
-
-  -- The first file ---------------------------------------------------------------------------------------------------------------
-
-  module _ (x p : ℕ) (i : keep (startsTo g d x) (count 0 256) ≡ keep (startsTo g d x) (count p (256 - p))) where
-    pub first-here : p < 256 → startsTo g d x p ≡ true → p ≡ firstFile g d x
-    unfolding firstFile firstOr
-    first-here h t = sym (ap (firstOr 256) (i ∙ keep-in (startsTo g d x) h t))
-
-    pub first-on : p < 256 → startsTo g d x p ≡ false → keep (startsTo g d x) (count 0 256) ≡ keep (startsTo g d x) (count (p + 1) (256 - (p + 1)))
-    first-on h t = i ∙ keep-out (startsTo g d x) h t
-
-    pub first-none : 256 ≤ p → 256 ≡ firstFile g d x
-    unfolding firstFile firstOr
-    first-none h = sym (ap (firstOr 256) (i ∙ ap (keep (startsTo g d x)) (count-none h)))
 
   -- An extension -----------------------------------------------------------------------------------------------------------------
 

@@ -1,3 +1,4 @@
 pub mod Reach
 pub mod Overlap
 pub mod Tests
+pub mod Noted

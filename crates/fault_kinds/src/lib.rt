@@ -1,10 +1,10 @@
-// The kinds of fault at one slot (02), but for those of its HIT byte and its name. Plain: what a test needs of other slots it finds anew.
+// The kinds of fault at one slot (02), but for those of its HIT byte and its name. What the walks come to is written down once for all slots.
 use meaning::Geometry;
 ghost use mathlib.Core.Path.{_≡_};
 ghost use mathlib.Core.Bool.{true, false, not};
 ghost use mathlib.Core.List.{[], _∷_};
 ghost use Prim.Native.Nat.{_+_, _-_, _*_, _<_, _≤_};
-ghost use lib.ListN.{length};
+ghost use lib.ListN.{length, getD, set};
 ghost use Rattle.meaning.specs.Lists.{count, every, some, each, has, any};
 ghost use Rattle.meaning.specs.Layout.{granules, taken, slots};
 ghost use Rattle.meaning.specs.Entries.{runs, entryGranules, extension};
@@ -15,7 +15,8 @@ ghost use Rattle.meaning.specs.Fault.{sizeFault, directoryFault};
 ghost use Rattle.layout.specs.Room.{Room, Slot, Below};
 ghost use Rattle.fault_kinds.specs.Reach.{reach};
 ghost use Rattle.fault_kinds.specs.Overlap.{runsMeet, runMeets, entriesMeet, meetsEarlier};
-ghost use Rattle.fault_kinds.specs.Tests.{pairHolds, startsTo, firstFile, leads, tally, runHolds, runIn, earlier, shares};
+ghost use Rattle.fault_kinds.specs.Tests.{pairHolds, firstFile, leads, tally, runHolds, runIn, earlier, shares};
+ghost use Rattle.fault_kinds.specs.Noted.{noted, notes, again, Walking, Filed, Leading, Told};
 
 fn pair_holds(image: &[u8], g: Geometry, s: usize, n: usize, k: usize) -> bool
     requires { ⌜ Room g (now image) × Slot g (now image) s × (n ≡ runs g (now image) s) × (k < 4) ⌝ }
@@ -97,26 +98,6 @@ fn bad_entry(image: &[u8], g: Geometry, s: usize) -> bool
     !hands_on(image, g, s)
 }
 
-// Whether x is among the entries from slot p on, at most n of them.
-fn comes_to(image: &[u8], g: Geometry, p: usize, n: usize, x: usize) -> bool
-    requires { ⌜ Room g (now image) × Slot g (now image) p ⌝ }
-    ensures { λ r. ⌜ r ≡ has (reach g (now (image .entry)) n p) x ⌝ }
-{
-    let mut s = p;
-    let mut left = n;
-    while 0 < left {
-        if x == s {
-            return true;
-        }
-        if !hands_on(image, g, s) {
-            return false;
-        }
-        s = layout::field(image, g, s, layout::LINK);
-        left -= 1;
-    }
-    false
-}
-
 // How many slots the directory has.
 fn slots(image: &[u8], g: Geometry) -> usize
     requires { ⌜ Room g (now image) ⌝ }
@@ -125,123 +106,171 @@ fn slots(image: &[u8], g: Geometry) -> usize
     layout::slots(image, g)
 }
 
-// Whether a file starts at slot p and its walk meets x.
-fn starts_to(image: &[u8], g: Geometry, x: usize, p: usize) -> bool
-    requires { ⌜ Room g (now image) ⌝ }
-    ensures { λ r. ⌜ r ≡ startsTo g (now (image .entry)) x p ⌝ }
+// Walks ------------------------------------------------------------------------------------------------------------------
+
+// For slot s: p + 1, unless something is written down for it already.
+fn note(files: &mut [u8; 256], s: usize, p: usize)
+    requires { ⌜ (s < 256) × (p + 1 < 256) ⌝ }
+    ensures { λ _. ⌜ now (files .exit) ≡ noted (now (files .entry)) (p + 1) s ⌝ }
+{
+    if files[s] == 0 {
+        files[s] = (p + 1) as u8;
+    }
+}
+
+// The entries from slot p on, at most n of them, written down with p.
+fn note_walk(image: &[u8], g: Geometry, p: usize, n: usize, files: &mut [u8; 256])
+    requires { ⌜ Room g (now image) × Slot g (now image) p ⌝ }
+    ensures { λ _. ⌜ now (files .exit) ≡ notes (now (files .entry)) (p + 1) (reach g (now (image .entry)) n p) ⌝ }
+{
+    let mut s = p;
+    let mut left = n;
+    while 0 < left {
+        note(files, s, p);
+        if !hands_on(image, g, s) {
+            return;
+        }
+        s = layout::field(image, g, s, layout::LINK);
+        left -= 1;
+    }
+}
+
+// Slot p, after all slots below it: its walk, if a file starts there.
+fn note_file(image: &[u8], g: Geometry, p: usize, n: usize, files: &mut [u8; 256])
+    requires { ⌜ Room g (now image) × (p < 256) × (n ≡ length (slots g (now image))) × Walking g (now image) p (now files) ⌝ }
+    ensures { λ _. ⌜ Walking g (now (image .entry)) (p + 1) (now (files .exit)) ⌝ }
 {
     if !layout::is_slot(image, g, p) {
-        return false;
+        return;
     }
     if !layout::primary(image, g, p) {
-        return false;
+        return;
     }
+    note_walk(image, g, p, n, files)
+}
+
+// For each slot the first file whose walk meets it: its number plus 1, or 0 where there is none.
+pub fn note_files(image: &[u8], g: Geometry, files: &mut [u8; 256])
+    requires { ⌜ Room g (now image) × Walking g (now image) 0 (now files) ⌝ }
+    ensures { λ _. ⌜ Filed g (now (image .entry)) (now (files .exit)) ⌝ }
+{
     let n = slots(image, g);
-    comes_to(image, g, p, n, x)
+    let mut p = 0;
+    while p < 256 {
+        note_file(image, g, p, n, files);
+        p += 1;
+    }
 }
 
 // The first file whose walk meets x; 256 where there is none.
-fn first_file(image: &[u8], g: Geometry, x: usize) -> usize
-    requires { ⌜ Room g (now image) ⌝ }
+fn first_file(image: &[u8], g: Geometry, files: &[u8], x: usize) -> usize
+    requires { ⌜ Filed g (now image) (now files) × (x < 256) ⌝ }
     ensures { λ r. ⌜ r ≡ firstFile g (now (image .entry)) x ⌝ }
 {
-    let mut p = 0;
-    while p < 256 {
-        if starts_to(image, g, x, p) {
-            return p;
-        }
-        p += 1;
+    let f = layout::wide(files[x]);
+    if f == 0 {
+        return 256;
     }
-    256
+    f - 1
 }
 
 // Whether some file's walk meets x.
-fn walked(image: &[u8], g: Geometry, x: usize) -> bool
-    requires { ⌜ Room g (now image) ⌝ }
+fn walked(image: &[u8], g: Geometry, files: &[u8], x: usize) -> bool
+    requires { ⌜ Filed g (now image) (now files) × (x < 256) ⌝ }
     ensures { λ r. ⌜ r ≡ has (walked g (now (image .entry))) x ⌝ }
 {
-    first_file(image, g, x) < 256
+    first_file(image, g, files, x) < 256
 }
 
-// The file that an entry in use belongs to; s itself where no walk meets it. A primary entry is met by the walk from it and by no other.
-pub fn file_of(image: &[u8], g: Geometry, s: usize) -> usize
-    requires { ⌜ Room g (now image) × Slot g (now image) s ⌝ }
+// The file that an entry in use belongs to; s itself where no walk meets it.
+pub fn file_of(image: &[u8], g: Geometry, files: &[u8], s: usize) -> usize
+    requires { ⌜ Filed g (now image) (now files) × Slot g (now image) s ⌝ }
     ensures { λ r. ⌜ (r ≡ fileOf g (now (image .entry)) s) × Slot g (now (image .entry)) r ⌝ }
 {
-    if layout::primary(image, g, s) {
-        return s;
-    }
-    let p = first_file(image, g, s);
+    let p = first_file(image, g, files, s);
     if p < 256 {
         return p;
     }
     s
 }
 
-// Whether a walk comes from slot b to x.
-fn leads(image: &[u8], g: Geometry, x: usize, b: usize) -> bool
-    requires { ⌜ Room g (now image) ⌝ }
-    ensures { λ r. ⌜ r ≡ leads g (now (image .entry)) x b ⌝ }
-{
-    if !layout::is_slot(image, g, b) {
-        return false;
-    }
-    if layout::field(image, g, b, layout::LINK) != x {
-        return false;
-    }
-    if !hands_on(image, g, b) {
-        return false;
-    }
-    walked(image, g, b)
-}
-
-// 0 where no walk comes from slot b to x; else 1 where x follows b, 2 where it does not.
+// 1 where x, which a walk comes to from b, follows it, 2 where it does not.
 fn tally(image: &[u8], g: Geometry, x: usize, b: usize) -> usize
-    requires { ⌜ Room g (now image) ⌝ }
-    ensures { λ r. ⌜ Below 3 (tally g (now (image .entry)) x b) r ⌝ }
+    requires { ⌜ Room g (now image) × (leads g (now image) x b ≡ true) ⌝ }
+    ensures { λ r. ⌜ (r ≡ tally g (now (image .entry)) x b) × (1 ≤ r) × (r ≤ 2) ⌝ }
 {
-    if !leads(image, g, x, b) {
-        return 0;
-    }
     if !entry::follows(image, g, 0x90, b, x) {
         return 2;
     }
     1
 }
 
-// Whether an extension is met in some file's chain, not twice, and well formed.
-pub fn good_extension(image: &[u8], g: Geometry, x: usize) -> bool
-    requires { ⌜ Room g (now image) ⌝ }
-    ensures { λ r. ⌜ r ≡ goodExtension g (now (image .entry)) x ⌝ }
+// For slot x: t, or 2 where something is told of it already.
+fn tell(goods: &mut [u8; 256], x: usize, t: usize)
+    requires { ⌜ (x < 256) × (t < 256) ⌝ }
+    ensures { λ _. ⌜ now (goods .exit) ≡ set (now (goods .entry)) x (again (getD (now (goods .entry)) x 0) t) ⌝ }
 {
-    let mut n = 0;
+    if goods[x] == 0 {
+        goods[x] = t as u8;
+        return;
+    }
+    goods[x] = 2;
+}
+
+// Slot b, after all slots below it: what a walk comes to from there.
+fn tell_from(image: &[u8], g: Geometry, files: &[u8], b: usize, goods: &mut [u8; 256])
+    requires { ⌜ Room g (now image) × Filed g (now image) (now files) × (b < 256) × Leading g (now image) b (now goods) ⌝ }
+    ensures { λ _. ⌜ Leading g (now (image .entry)) (b + 1) (now (goods .exit)) ⌝ }
+{
+    if !layout::is_slot(image, g, b) {
+        return;
+    }
+    if !hands_on(image, g, b) {
+        return;
+    }
+    if !walked(image, g, files, b) {
+        return;
+    }
+    let x = layout::field(image, g, b, layout::LINK);
+    let t = tally(image, g, x, b);
+    tell(goods, x, t)
+}
+
+// For each slot 1 where an extension there is met in some file's chain, not twice, and well formed.
+pub fn note_goods(image: &[u8], g: Geometry, files: &[u8], goods: &mut [u8; 256])
+    requires { ⌜ Room g (now image) × Filed g (now image) (now files) × Leading g (now image) 0 (now goods) ⌝ }
+    ensures { λ _. ⌜ Told g (now (image .entry)) (now (goods .exit)) ⌝ }
+{
     let mut b = 0;
     while b < 256 {
-        let t = tally(image, g, x, b);
-        if t == 2 {
-            return false;
-        }
-        n += t;
+        tell_from(image, g, files, b, goods);
         b += 1;
     }
-    n == 1
+}
+
+// Whether an extension is met in some file's chain, not twice, and well formed.
+pub fn good_extension(image: &[u8], g: Geometry, goods: &[u8], x: usize) -> bool
+    requires { ⌜ Told g (now image) (now goods) × (x < 256) ⌝ }
+    ensures { λ r. ⌜ r ≡ goodExtension g (now (image .entry)) x ⌝ }
+{
+    goods[x] == 1
 }
 
 // Chain -----------------------------------------------------------------------------------------------------------------
 
 // Whether an entry is primary, or an extension that is in order.
-pub fn linked(image: &[u8], g: Geometry, s: usize) -> bool
-    requires { ⌜ Room g (now image) × Slot g (now image) s ⌝ }
+pub fn linked(image: &[u8], g: Geometry, goods: &[u8], s: usize) -> bool
+    requires { ⌜ Room g (now image) × Slot g (now image) s × Told g (now image) (now goods) ⌝ }
     ensures { λ r. ⌜ r ≡ any (not (extension g (now (image .entry)) s) ∷ goodExtension g (now (image .entry)) s ∷ []) ⌝ }
 {
     if !layout::flag(image, g, s, layout::EXTENSION) {
         return true;
     }
-    good_extension(image, g, s)
+    good_extension(image, g, goods, s)
 }
 
-pub fn chain_fault(image: &[u8], g: Geometry, s: usize) -> bool
-    requires { ⌜ Room g (now image) × Slot g (now image) s ⌝ }
+pub fn chain_fault(image: &[u8], g: Geometry, goods: &[u8], s: usize) -> bool
+    requires { ⌜ Room g (now image) × Slot g (now image) s × Told g (now image) (now goods) ⌝ }
     ensures { λ r. ⌜ r ≡ chainFault g (now (image .entry)) s ⌝ }
 {
     if !layout::flag(image, g, s, layout::IN_USE) {
@@ -250,7 +279,7 @@ pub fn chain_fault(image: &[u8], g: Geometry, s: usize) -> bool
     if bad_entry(image, g, s) {
         return true;
     }
-    !linked(image, g, s)
+    !linked(image, g, goods, s)
 }
 
 // Runs ------------------------------------------------------------------------------------------------------------------
@@ -495,14 +524,14 @@ pub fn shared_fault(image: &[u8], g: Geometry, s: usize) -> bool
 // Size ------------------------------------------------------------------------------------------------------------------
 
 // Whether no entry from slot p on, of at most n, has a chain fault.
-fn whole_from(image: &[u8], g: Geometry, p: usize, n: usize) -> bool
-    requires { ⌜ Room g (now image) × Slot g (now image) p ⌝ }
+fn whole_from(image: &[u8], g: Geometry, goods: &[u8], p: usize, n: usize) -> bool
+    requires { ⌜ Room g (now image) × Slot g (now image) p × Told g (now image) (now goods) ⌝ }
     ensures { λ r. ⌜ r ≡ every (λ s. not (chainFault g (now (image .entry)) s)) (reach g (now (image .entry)) n p) ⌝ }
 {
     let mut s = p;
     let mut left = n;
     while 0 < left {
-        if chain_fault(image, g, s) {
+        if chain_fault(image, g, goods, s) {
             return false;
         }
         if !hands_on(image, g, s) {
@@ -542,15 +571,15 @@ fn size_holds(image: &[u8], g: Geometry, p: usize, n: usize) -> bool
     entry::size_holds(image, g, p, c)
 }
 
-pub fn size_fault(image: &[u8], g: Geometry, p: usize) -> bool
-    requires { ⌜ Room g (now image) × Slot g (now image) p ⌝ }
+pub fn size_fault(image: &[u8], g: Geometry, goods: &[u8], p: usize) -> bool
+    requires { ⌜ Room g (now image) × Slot g (now image) p × Told g (now image) (now goods) ⌝ }
     ensures { λ r. ⌜ r ≡ sizeFault g (now (image .entry)) p ⌝ }
 {
     if !layout::primary(image, g, p) {
         return false;
     }
     let n = slots(image, g);
-    if !whole_from(image, g, p, n) {
+    if !whole_from(image, g, goods, p, n) {
         return false;
     }
     !size_holds(image, g, p, n)
@@ -558,14 +587,14 @@ pub fn size_fault(image: &[u8], g: Geometry, p: usize) -> bool
 
 // Directory -------------------------------------------------------------------------------------------------------------
 
-pub fn directory_fault(image: &[u8], g: Geometry, s: usize) -> bool
-    requires { ⌜ Room g (now image) × Slot g (now image) s ⌝ }
+pub fn directory_fault(image: &[u8], g: Geometry, files: &[u8], s: usize) -> bool
+    requires { ⌜ Room g (now image) × Slot g (now image) s × Filed g (now image) (now files) ⌝ }
     ensures { λ r. ⌜ r ≡ directoryFault g (now (image .entry)) s ⌝ }
 {
     if !layout::flag(image, g, s, layout::IN_USE) {
         return false;
     }
-    let p = file_of(image, g, s);
+    let p = file_of(image, g, files, s);
     if layout::flag(image, g, p, layout::SYSTEM) {
         return false;
     }

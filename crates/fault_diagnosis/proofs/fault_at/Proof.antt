@@ -5,6 +5,17 @@ use Rattle.fault_kinds.proofs.Passes.{so, not-so}
 use borrow.Author.Needs.{needs}
 use Rattle.fault_diagnosis.proofs.fault_at.Statement.{statement}
 use Rattle.fault_diagnosis.proofs.fault_at.Tie as tie
+use Rattle.fault_diagnosis.proofs.fault_at.Reads as reads
+use Rattle.fault_diagnosis.proofs.fault_at.Lts as lts
+use Rattle.fault_diagnosis.proofs.duplicate_fault.Reads as duplicate-fault-reads
+use Rattle.fault_diagnosis.proofs.gat_fault.Reads as gat-fault-reads
+use Rattle.fault_diagnosis.proofs.hit_fault.Reads as hit-fault-reads
+use Rattle.fault_diagnosis.proofs.name_fault.Reads as name-fault-reads
+use Rattle.fault_diagnosis.proofs.run_fault.Reads as run-fault-reads
+use Rattle.fault_diagnosis.proofs.shared_fault.Reads as shared-fault-reads
+use Rattle.fault_kinds.proofs.chain_fault.Reads as chain-fault-reads
+use Rattle.fault_kinds.proofs.directory_fault.Reads as directory-fault-reads
+use Rattle.fault_kinds.proofs.size_fault.Reads as size-fault-reads
 
 hit-fault-requires : tie.Need-hit-fault-requires
 hit-fault-requires c κs = search needs
@@ -66,7 +77,7 @@ returns-5 c =
 
 gat-fault-requires : tie.Need-gat-fault-requires
 gat-fault-requires c κs =
-    let c₁₁ = c .before .before .before .before .before .before .before .before .before .before .before in let p = c₁₁ .pre in
+    let c₁₃ = c .before .before .before .before .before .before .before .before .before .before .before .before .before in let p = c₁₃ .pre in
     (p .0, p .1, p .3, not-so (c .before .run-fault .ensures) (c .if5 .left))
 
 returns-6 : tie.Need-returns-6
@@ -183,6 +194,25 @@ returns-10 c =
     (not-so (c .before .directory-fault .ensures) (c .if9 .left)) _ _ ∙ first-none)
 
 pub fault-at-spec : {M : Type 1} → statement M
-fault-at-spec = tie.close (tie.spec hit-fault-requires returns name-fault-requires returns-2 duplicate-fault-requires returns-3 chain-fault-requires returns-4
-    run-fault-requires returns-5 gat-fault-requires returns-6 shared-fault-requires returns-7 size-fault-requires returns-8 directory-fault-requires returns-9
+fault-at-spec =
+    tie.close
+    (tie.spec
+    hit-fault-requires
+    returns
+    name-fault-requires
+    returns-2
+    duplicate-fault-requires
+    returns-3
+    chain-fault-requires
+    returns-4
+    run-fault-requires
+    returns-5
+    gat-fault-requires
+    returns-6
+    shared-fault-requires
+    returns-7
+    size-fault-requires
+    returns-8
+    directory-fault-requires
+    returns-9
     returns-10)

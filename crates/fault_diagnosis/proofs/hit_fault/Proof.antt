@@ -5,6 +5,12 @@ use Rattle.fault_kinds.proofs.Passes.{any-one}
 use borrow.Author.Needs.{needs}
 use Rattle.fault_diagnosis.proofs.hit_fault.Statement.{statement}
 use Rattle.fault_diagnosis.proofs.hit_fault.Tie as tie
+use Rattle.fault_diagnosis.proofs.hit_fault.Reads as reads
+use Rattle.fault_diagnosis.proofs.hit_fault.Lts as lts
+use Rattle.fault_diagnosis.proofs.hash_differs.Reads as hash-differs-reads
+use Rattle.fault_diagnosis.proofs.hit_holds.Reads as hit-holds-reads
+use Rattle.fault_kinds.proofs.linked.Reads as linked-reads
+use Rattle.layout.proofs.flag.Reads as flag-reads
 
 hit-holds-requires : tie.Need-hit-holds-requires
 hit-holds-requires c κs = search needs
@@ -47,4 +53,14 @@ returns-4 c =
     _ ∙ all-yes (is-yes (c .before .before .linked .ensures) (c .before .if3 .left)) _ ∙ all-one _)
 
 pub hit-fault-spec : {M : Type 1} → statement M
-hit-fault-spec = tie.close (tie.spec hit-holds-requires returns flag-requires returns-2 linked-requires returns-3 hash-differs-requires returns-4)
+hit-fault-spec =
+    tie.close
+    (tie.spec
+    hit-holds-requires
+    returns
+    flag-requires
+    returns-2
+    linked-requires
+    returns-3
+    hash-differs-requires
+    returns-4)

@@ -1,11 +1,16 @@
-use borrow.Author.Needs.{needs}
 use Rattle.fault_kinds.proofs.Passes.{so, not-so, any-one, unlinked}
 use Rattle.lists.specs.Tests.{all-no, all-yes, all-one, is-no, is-yes, any-skip, any-hit}
 use Rattle.meaning.specs.Fault.{chainFault}
 use mathlib.Core.Bool.{not}
 use mathlib.Core.Path.{sym, ap, _∙_}
+use borrow.Author.Needs.{needs}
 use Rattle.fault_kinds.proofs.chain_fault.Statement.{statement}
 use Rattle.fault_kinds.proofs.chain_fault.Tie as tie
+use Rattle.fault_kinds.proofs.chain_fault.Reads as reads
+use Rattle.fault_kinds.proofs.chain_fault.Lts as lts
+use Rattle.fault_kinds.proofs.bad_entry.Reads as bad-entry-reads
+use Rattle.fault_kinds.proofs.linked.Reads as linked-reads
+use Rattle.layout.proofs.flag.Reads as flag-reads
 
 flag-requires : tie.Need-flag-requires
 flag-requires c κs = search needs
@@ -35,4 +40,6 @@ returns-3 c =
     any-one _)
 
 pub chain-fault-spec : {M : Type 1} → statement M
-chain-fault-spec = tie.close (tie.spec flag-requires returns bad-entry-requires returns-2 linked-requires returns-3)
+chain-fault-spec =
+    tie.close
+    (tie.spec flag-requires returns bad-entry-requires returns-2 linked-requires returns-3)

@@ -11,10 +11,10 @@ use Rattle.fault_kinds.proofs.directory_fault.Statement.{statement}
 use Rattle.fault_kinds.proofs.directory_fault.Tie as tie
 use Rattle.fault_kinds.proofs.directory_fault.Reads as reads
 use Rattle.fault_kinds.proofs.directory_fault.Lts as lts
-use Rattle.layout.proofs.flag.Reads as flag-reads
 use Rattle.fault_kinds.proofs.entry_in.Reads as entry-in-reads
 use Rattle.fault_kinds.proofs.file_of.Reads as file-of-reads
 use Rattle.layout.proofs.directory_granules.Reads as directory-granules-reads
+use Rattle.layout.proofs.flag.Reads as flag-reads
 use Rattle.layout.proofs.granule_sectors.Reads as granule-sectors-reads
 
 flag-requires : tie.Need-flag-requires
@@ -28,11 +28,11 @@ file-of-requires : tie.Need-file-of-requires
 file-of-requires c κs = search needs
 
 flag-requires-2 : tie.Need-flag-requires-2
-flag-requires-2 c κs = (c .before .before .before .before .pre .0, c .file-of .ensures .1, omega arith)
+flag-requires-2 c κs = (c .before .before .before .before .before .pre .0, c .file-of .ensures .1, omega arith)
 
 returns-2 : tie.Need-returns-2
 unfolding directoryFault
-returns-2 c = let a = c .before .before .before .before .before .before .args in
+returns-2 c = let a = c .before .before .before .before .before .before .before .args in
     sym (all-yes (is-yes (c .before .before .before .before .flag .ensures) (c .before .before .before .if1 .left)) _ ∙ all-no
     (not-yes (ap (system (a .g) (a .image .now)) (sym (c .before .before .file-of .ensures .0)) ∙ so (c .before .flag2 .ensures) (c .if2 .taken))) _)
 
@@ -46,20 +46,20 @@ directory-granules-requires : tie.Need-directory-granules-requires
 directory-granules-requires c κs = search needs
 
 entry-in-requires : tie.Need-entry-in-requires
-entry-in-requires c κs = let r = c .before .before .before .before .before .before .before .before .before .pre .0 in
+entry-in-requires c κs = let r = c .before .before .before .before .before .before .before .before .before .before .pre .0 in
     let w = c .before .before .granule-sectors .ensures .some in (
       r,
-      c .before .before .before .before .before .before .before .before .before .pre .1,
+      c .before .before .before .before .before .before .before .before .before .before .pre .1,
       width-lt (omega arith)
-          (c .before .before .before .before .before .before .before .before .before .args .g .start) 65536 (omega (arith, r .directory, r .far)),
+          (c .before .before .before .before .before .before .before .before .before .before .args .g .start) 65536 (omega (arith, r .directory, r .far)),
       omega
           (arith, c .directory-granules .ensures .small),
     )
 
 returns-3 : tie.Need-returns-3
 unfolding directoryFault
-returns-3 c = let a = c .before .before .before .before .before .before .before .before .before .before .args in
-    c .entry-in .ensures ∙ directory-by _ _ _ (c .before .before .before .before .before .before .before .before .before .before .pre .0)
+returns-3 c = let a = c .before .before .before .before .before .before .before .before .before .before .before .args in
+    c .entry-in .ensures ∙ directory-by _ _ _ (c .before .before .before .before .before .before .before .before .before .before .before .pre .0)
     (rw (← c .before .before .before .granule-sectors .ensures .is) refl) (c .before .directory-granules .ensures .is)
     ∙ sym (all-yes (is-yes (c .before .before .before .before .before .before .before .before .flag .ensures)
     (c .before .before .before .before .before .before .before .if1 .left)) _ ∙ all-yes

@@ -1,41 +1,36 @@
-use Rattle.fault_kinds.proofs.Passes.{so, not-so, first-here, first-on, first-none}
-use Rattle.fault_kinds.specs.Tests.{startsTo}
-use Rattle.meaning.specs.Lists.{count, keep}
+use mathlib.Core.Bool.{Bool, cond}
+use lib.Dec.{eqb}
+use Rattle.fault_kinds.specs.Noted.{slotOr}
+use borrow.Author.Tests.{eq-eqb, ne-eqb}
+use Prim.Native.Nat.{ℕ, _-_}
+use mathlib.Core.Path.{_≡_, sym, ap, _∙_}
 use borrow.Author.Needs.{needs}
-use native.Mathlib.Omega.{arith}
-use Prim.Native.Nat.{_-_}
-use mathlib.Core.Path.{_≡_, refl}
 use Rattle.fault_kinds.proofs.first_file.Statement.{statement}
 use Rattle.fault_kinds.proofs.first_file.Tie as tie
+use Rattle.fault_kinds.proofs.first_file.Reads as reads
+use Rattle.fault_kinds.proofs.first_file.Lts as lts
+use Rattle.layout.proofs.wide.Reads as wide-reads
 
-abbrev Inv-loop : tie.InvT-loop
-Inv-loop image g x p₀ p = keep (startsTo g image x) (count 0 256) ≡ keep (startsTo g image x) (count p (256 - p))
+shared-slice-read-wide : tie.Need-shared-slice-read-wide
+shared-slice-read-wide c = search needs
 
-abbrev μ-loop : tie.MeasureT-loop
-μ-loop image g x p₀ p = 256 - p
+wide-requires : tie.Need-wide-requires
+wide-requires c κs = search needs
 
-loop-holds : tie.Need-loop-holds Inv-loop μ-loop
-loop-holds c = refl
+returns : tie.Need-returns
+returns c =
+    let c₅ = c .before .before .before .before .before in let a = c₅ .args in let p = c₅ .pre in
+    sym (p .0 .first (a .x) (p .1) ∙ ap (slotOr 256) (sym (c .before .wide .ensures .is) ∙ c .if1 .taken))
 
-starts-to-requires : tie.Need-starts-to-requires Inv-loop μ-loop
-starts-to-requires c κs = search needs
+sub-result : tie.Need-sub-result
+sub-result c = search needs
 
-returns : tie.Need-returns Inv-loop μ-loop
-returns c = first-here _ _ _ _ (c .before .before .before .loop .inv) (c .before .before .loop-test .taken)
-    (so (c .before .starts-to .ensures) (c .if1 .taken))
-
-add-p : tie.Need-add-p Inv-loop μ-loop
-add-p c = search needs
-
-loop-less : tie.Need-loop-less Inv-loop μ-loop
-loop-less c = omega arith
-
-loop-again : tie.Need-loop-again Inv-loop μ-loop
-loop-again c = first-on _ _ _ _ (c .before .before .before .loop .inv) (c .before .before .loop-test .taken)
-    (not-so (c .before .starts-to .ensures) (c .if1 .left))
-
-returns-2 : tie.Need-returns-2 Inv-loop μ-loop
-returns-2 c = first-none _ _ _ _ (c .before .loop .inv) (c .loop-test .left)
+returns-2 : tie.Need-returns-2
+returns-2 c =
+    let c₅ = c .before .before .before .before .before in let a = c₅ .args in let p = c₅ .pre in
+    sym (p .0 .first (a .x) (p .1) ∙ ap (slotOr 256) (sym (c .before .wide .ensures .is))
+    ∙ ap (λ (b : Bool). cond b 256 (c .before .wide .result - 1)) (ne-eqb (c .before .wide .result) 0 (c .if1 .left)))
 
 pub first-file-spec : {M : Type 1} → statement M
-first-file-spec = tie.close (tie.spec Inv-loop μ-loop loop-holds starts-to-requires returns add-p loop-less loop-again returns-2)
+first-file-spec =
+    tie.close (tie.spec shared-slice-read-wide wide-requires returns sub-result returns-2)

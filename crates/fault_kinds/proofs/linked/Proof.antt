@@ -1,9 +1,13 @@
-use borrow.Author.Needs.{needs}
 use Rattle.fault_kinds.proofs.Passes.{any-one}
 use Rattle.lists.specs.Tests.{is-no, is-yes, not-no, not-yes, any-skip, any-hit}
 use mathlib.Core.Path.{sym, _∙_}
+use borrow.Author.Needs.{needs}
 use Rattle.fault_kinds.proofs.linked.Statement.{statement}
 use Rattle.fault_kinds.proofs.linked.Tie as tie
+use Rattle.fault_kinds.proofs.linked.Reads as reads
+use Rattle.fault_kinds.proofs.linked.Lts as lts
+use Rattle.fault_kinds.proofs.good_extension.Reads as good-extension-reads
+use Rattle.layout.proofs.flag.Reads as flag-reads
 
 flag-requires : tie.Need-flag-requires
 flag-requires c κs = search needs

@@ -25,7 +25,7 @@ unfolding sizeFault
 returns-2 c =
     let c₃ = c .before .before .before in let if1 = c₃ .if1 in
     let c₄ = c₃ .before in let primary = c₄ .primary in
-    let c₆ = c₄ .before .before in let p = c₆ .pre in
+    let c₇ = c₄ .before .before .before in let p = c₇ .pre in
     sym (all-yes (is-yes (primary .ensures) (if1 .left)) _ ∙ all-no
     (whole-by _ _ _ (p .1) (is-yes (primary .ensures) (if1 .left)) (c .before .before .slots .ensures .is) ∙ is-no (c .before .whole-from .ensures)
     (c .if2 .taken)) _)
@@ -34,7 +34,7 @@ size-holds-requires : tie.Need-size-holds-requires
 size-holds-requires c κs =
     let c₃ = c .before .before .before in let if1 = c₃ .if1 in
     let c₄ = c₃ .before in let primary = c₄ .primary in
-    let c₆ = c₄ .before .before in let p = c₆ .pre in (
+    let c₇ = c₄ .before .before .before in let p = c₇ .pre in (
       p .0,
       p .1,
       c .before .before .slots .ensures .small,
@@ -48,7 +48,7 @@ returns-3 c =
     let c₃ = c .before .before .before in let slots = c₃ .slots in
     let c₄ = c₃ .before in let if1 = c₄ .if1 in
     let c₅ = c₄ .before in let primary = c₅ .primary in
-    let c₇ = c₅ .before .before in let p = c₇ .pre in
+    let c₈ = c₅ .before .before .before in let p = c₈ .pre in
     ap not (c .size-holds .ensures) ∙ sym (all-yes (is-yes (primary .ensures) (if1 .left)) _ ∙ all-yes
     (whole-by _ _ _ (p .1) (is-yes (primary .ensures) (if1 .left)) (slots .ensures .is) ∙ is-yes (c .before .before .whole-from .ensures)
     (c .before .if2 .left)) _ ∙ all-one _)

@@ -8,18 +8,25 @@ use native.Mathlib.Omega.{arith}
 use mathlib.Core.Path.{_≡_, refl}
 use Rattle.fault_kinds.proofs.whole_from.Statement.{statement}
 use Rattle.fault_kinds.proofs.whole_from.Tie as tie
+use Rattle.fault_kinds.proofs.whole_from.Reads as reads
+use Rattle.fault_kinds.proofs.whole_from.Lts as lts
+use Rattle.fault_kinds.proofs.chain_fault.Reads as chain-fault-reads
+use Rattle.fault_kinds.proofs.hands_on.Reads as hands-on-reads
+use Rattle.layout.proofs.field.Reads as field-reads
 
 abbrev Inv-loop : tie.InvT-loop
-Inv-loop image g p n s₀ left₀ s left = (every (firm g image) (reach g image n p) ≡ every (firm g image) (reach g image left s)) × Slot g image s
+Inv-loop image g goods p n s₀ left₀ s left = (every (firm g image) (reach g image n p) ≡ every (firm g image) (reach g image left s)) × Slot g image s
 
 abbrev μ-loop : tie.MeasureT-loop
-μ-loop image g p n s₀ left₀ s left = left
+μ-loop image g goods p n s₀ left₀ s left = left
 
 loop-holds : tie.Need-loop-holds Inv-loop μ-loop
-loop-holds c = (refl, c .before .pre .1)
+loop-holds c = (refl, c .before .before .pre .1)
 
 chain-fault-requires : tie.Need-chain-fault-requires Inv-loop μ-loop
-chain-fault-requires c κs = (c .before .before .before .pre .0, c .before .loop .inv .1)
+chain-fault-requires c κs =
+    let c₄ = c .before .before .before .before in let p = c₄ .pre in
+    (p .0, c .before .loop .inv .1, p .2)
 
 returns : tie.Need-returns Inv-loop μ-loop
 returns c = whole-no _ _ _ _ _ _ (c .before .before .before .loop .inv .0) (c .before .before .loop-test .taken)
@@ -28,7 +35,7 @@ returns c = whole-no _ _ _ _ _ _ (c .before .before .before .loop .inv .0) (c .b
 hands-on-requires : tie.Need-hands-on-requires Inv-loop μ-loop
 hands-on-requires c κs =
     let c₃ = c .before .before .before in let l = c₃ .loop in
-    let c₅ = c₃ .before .before in let p = c₅ .pre in
+    let c₆ = c₃ .before .before .before in let p = c₆ .pre in
     (p .0, l .inv .1)
 
 returns-2 : tie.Need-returns-2 Inv-loop μ-loop
@@ -41,10 +48,9 @@ returns-2 c =
 
 field-requires : tie.Need-field-requires Inv-loop μ-loop
 field-requires c κs = (
-  c .before .before .before .before .before .before .before .pre .0,
+  c .before .before .before .before .before .before .before .before .pre .0,
   c .before .before .before .before .before .loop .inv .1,
-  omega
-      arith,
+  omega arith,
 )
 
 sub-left : tie.Need-sub-left Inv-loop μ-loop
@@ -69,5 +75,18 @@ returns-3 : tie.Need-returns-3 Inv-loop μ-loop
 returns-3 c = whole-none _ _ _ _ _ _ (c .before .loop .inv .0) (c .loop-test .left)
 
 pub whole-from-spec : {M : Type 1} → statement M
-whole-from-spec = tie.close (tie.spec Inv-loop μ-loop loop-holds chain-fault-requires returns hands-on-requires returns-2 field-requires sub-left loop-less
-    loop-again returns-3)
+whole-from-spec =
+    tie.close
+    (tie.spec
+    Inv-loop
+    μ-loop
+    loop-holds
+    chain-fault-requires
+    returns
+    hands-on-requires
+    returns-2
+    field-requires
+    sub-left
+    loop-less
+    loop-again
+    returns-3)
