@@ -30,13 +30,13 @@ use Rattle.check_map.proofs.Maps.{in-range, marked-out, marked-in, Open, allows
 use Rattle.check_map.proofs.Standing.{open-if}
 use Rattle.check_walk.specs.Walk.{Entered, entryFits}
 use Rattle.check_walk.specs.declared.Pairs.{Pairs}
-use Rattle.fault_clear.specs.Clear.{RunsClear, NamesClear, Clearing}
+use Rattle.fault_clear.specs.Clear.{RunsClear, NamesClear, ClearThrough}
 
 module _ (g : Geometry) (d : List ℕ) where
   -- Runs ------------------------------------------------------------------------------------------------------------------
 
   -- below 0 there is no slot
-  pub clearing-start : {m : List ℕ} → GatMap g d m → Clearing g d 0 (standing g d m)
+  pub clearing-start : {m : List ℕ} → GatMap g d m → ClearThrough g d 0 (standing g d m)
   clearing-start {m} w =
       record {
         clear = record { run = λ s b. absurd (none b); gat = λ s b. absurd (none b); shared = λ s b. absurd (none b) };
@@ -60,7 +60,7 @@ module _ (g : Geometry) (d : List ℕ) where
       by (no e) = f s (omega arith) l
 
   -- slot n is not in use
-  pub clearing-skip : (n : ℕ) {m : List ℕ} → (Slot g d n → inUse g d n ≡ false) → Clearing g d n m → Clearing g d (n + 1) m
+  pub clearing-skip : (n : ℕ) {m : List ℕ} → (Slot g d n → inUse g d n ≡ false) → ClearThrough g d n m → ClearThrough g d (n + 1) m
   unfolding runFault gatFault sharedFault
   clearing-skip n {m} h c =
       record {
@@ -82,7 +82,7 @@ module _ (g : Geometry) (d : List ℕ) where
   no-slot n e l = not-both (slot-yes g d n (l .low) (l .held)) e
 
   -- slot n is in use, and its entry was taken off the map
-  module _ (n : ℕ) {m m′ : List ℕ} {p : Pairs} (w : Entered g d n 1 m m′ p) (ok : p .ok ≡ true) (c : Clearing g d n m) where
+  module _ (n : ℕ) {m m′ : List ℕ} {p : Pairs} (w : Entered g d n 1 m m′ p) (ok : p .ok ≡ true) (c : ClearThrough g d n m) where
     fits : entryFits g d n 1 m ≡ true
     fits = sym (w .answer) ∙ ok
 
@@ -126,7 +126,7 @@ module _ (g : Geometry) (d : List ℕ) where
         let y : getD m′ q 0 ≡ getD m q 0 = ap (λ (l : List ℕ). getD l q 0) (w .map ok) ∙ marked-out 0 q (entryGranules g d n) m e in
         (e, omega arith)
 
-    pub clearing-step : Clearing g d (n + 1) m′
+    pub clearing-step : ClearThrough g d (n + 1) m′
     unfolding runFault gatFault
     clearing-step =
         record {

@@ -23,7 +23,7 @@ module _ (g : Geometry) (d : List ℕ) where
     pub name : (s : ℕ) → s < n → Slot g d s → duplicateFault g d s ≡ false
 
   -- the entries in use below slot n are off the owner map m: a granule that is open has its GAT bit set and is in none of them
-  pub record Clearing (n : ℕ) (m : List ℕ) : Type 0 where
+  pub record ClearThrough (n : ℕ) (m : List ℕ) : Type 0 where
     pub clear : RunsClear n
     pub bits : (q : ℕ) → q < granules g → 1 ≤ getD m q 0 → taken g d q ≡ true
     pub free : (q t : ℕ) → q < granules g → 1 ≤ getD m q 0 → t < n → Slot g d t → inUse g d t ≡ true → In q (entryGranules g d t) → ⊥

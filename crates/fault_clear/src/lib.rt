@@ -6,12 +6,12 @@ ghost use mathlib.Core.Bool.{true};
 ghost use Prim.Native.Nat.{_+_};
 ghost use Rattle.layout.specs.Room.{Room};
 ghost use Rattle.check_map.specs.Owners.{standing};
-ghost use Rattle.fault_clear.specs.Clear.{RunsClear, NamesClear, Clearing};
+ghost use Rattle.fault_clear.specs.Clear.{RunsClear, NamesClear, ClearThrough};
 
 // Slot s, after all slots below it: its entry, if it is in use, is taken off the owner map. Whether it could be.
 fn taken_off(image: &[u8], g: Geometry, s: usize, map: &mut [u8; 192]) -> bool
-    requires { ⌜ Room g (now image) × Clearing g (now image) s (standing g (now image) (now map)) ⌝ }
-    ensures { λ r. ⌜ (r ≡ true → Clearing g (now (image .entry)) (s + 1) (standing g (now (image .entry)) (now (map .exit)))) ⌝ }
+    requires { ⌜ Room g (now image) × ClearThrough g (now image) s (standing g (now image) (now map)) ⌝ }
+    ensures { λ r. ⌜ (r ≡ true → ClearThrough g (now (image .entry)) (s + 1) (standing g (now (image .entry)) (now (map .exit)))) ⌝ }
 {
     if !layout::is_slot(image, g, s) {
         return true;

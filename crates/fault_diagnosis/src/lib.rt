@@ -12,7 +12,7 @@ ghost use Rattle.meaning.specs.Refusals.{check};
 ghost use Rattle.layout.specs.Room.{Room, Slot};
 ghost use Rattle.check_whole.specs.Slots.{FitsImage};
 ghost use Rattle.fault_clear.specs.Clear.{NamesClear, RunsClear};
-ghost use Rattle.fault_kinds.specs.Noted.{Filed, Told};
+ghost use Rattle.fault_kinds.specs.Noted.{FileNoted, Told};
 ghost use Rattle.fault_diagnosis.specs.Told.{hashDiffers, sameFile, faultIn, afterSlots};
 
 // A slot's HIT byte is nonzero exactly if its entry is in use.
@@ -30,7 +30,7 @@ fn hit_holds(image: &[u8], g: Geometry, s: usize) -> bool
 
 // Whether the HIT byte is not the hash of the name of the entry's file.
 fn hash_differs(image: &[u8], g: Geometry, files: &[u8], s: usize) -> bool
-    requires { ⌜ Room g (now image) × Slot g (now image) s × Filed g (now image) (now files) ⌝ }
+    requires { ⌜ Room g (now image) × Slot g (now image) s × FileNoted g (now image) (now files) ⌝ }
     ensures { λ r. ⌜ r ≡ hashDiffers g (now (image .entry)) s ⌝ }
 {
     let p = fault_kinds::file_of(image, g, files, s);
@@ -41,7 +41,7 @@ fn hash_differs(image: &[u8], g: Geometry, files: &[u8], s: usize) -> bool
 }
 
 fn hit_fault(image: &[u8], g: Geometry, files: &[u8], goods: &[u8], s: usize) -> bool
-    requires { ⌜ Room g (now image) × Slot g (now image) s × Filed g (now image) (now files) × Told g (now image) (now goods) ⌝ }
+    requires { ⌜ Room g (now image) × Slot g (now image) s × FileNoted g (now image) (now files) × Told g (now image) (now goods) ⌝ }
     ensures { λ r. ⌜ r ≡ hitFault g (now (image .entry)) s ⌝ }
 {
     if !hit_holds(image, g, s) {
@@ -158,7 +158,7 @@ fn fault_at(
     runs: usize,
 ) -> u8
     requires { ⌜ Room g (now image) × Slot g (now image) s × NamesClear g (now image) names × RunsClear g (now image) runs
-        × Filed g (now image) (now files) × Told g (now image) (now goods) ⌝ }
+        × FileNoted g (now image) (now files) × Told g (now image) (now goods) ⌝ }
     ensures { λ r. ⌜ r ≡ faultAt g (now (image .entry)) s ⌝ }
 {
     if hit_fault(image, g, files, goods, s) {
@@ -202,7 +202,7 @@ fn fault_in(
     runs: usize,
 ) -> u8
     requires { ⌜ Room g (now image) × NamesClear g (now image) names × RunsClear g (now image) runs
-        × Filed g (now image) (now files) × Told g (now image) (now goods) ⌝ }
+        × FileNoted g (now image) (now files) × Told g (now image) (now goods) ⌝ }
     ensures { λ r. ⌜ r ≡ faultIn g (now (image .entry)) s ⌝ }
 {
     if !layout::is_slot(image, g, s) {

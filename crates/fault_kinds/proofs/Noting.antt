@@ -20,7 +20,7 @@ use Rattle.lists.specs.Tests.{all-no, all-yes, all-one, all-none, all-out, keep
 use Rattle.lists.specs.Ranges.{count-more, count-none}
 use Rattle.fault_kinds.specs.Reach.{reach}
 use Rattle.fault_kinds.specs.Tests.{startsTo, firstFile, leads, tally, goodFrom}
-use Rattle.fault_kinds.specs.Noted.{noted, notes, slotOr, again, Walking, Filed, Led, Leading, Told}
+use Rattle.fault_kinds.specs.Noted.{noted, notes, slotOr, again, WalkNoted, FileNoted, Led, Leading, Told}
 use Rattle.fault_kinds.proofs.Passes.{good-bad, good-on, good-end, tally-none, reach-stop, reach-on, reach-none}
 use Rattle.fault_kinds.proofs.Bridge.{good-start}
 
@@ -97,7 +97,7 @@ zeros (suc n) (suc k) = zeros n k
 module _ (g : Geometry) (d : List ℕ) where
   -- Files -----------------------------------------------------------------------------------------------------------------
 
-  pub walking-start : Walking g d 0 (replicate 256 0)
+  pub walking-start : WalkNoted g d 0 (replicate 256 0)
   unfolding firstFile
   walking-start = record {
     long = refl;
@@ -113,7 +113,7 @@ module _ (g : Geometry) (d : List ℕ) where
   rest-in x p h t = ap (firstOr 256) (ap (keep (startsTo g d x)) (count-more h) ∙ keep-yes (startsTo g d x) t (count (p + 1) (256 - (p + 1))))
 
   -- slot p starts no file
-  pub walking-skip : (p : ℕ) {files : List ℕ} → p < 256 → ((x : ℕ) → startsTo g d x p ≡ false) → Walking g d p files → Walking g d (p + 1) files
+  pub walking-skip : (p : ℕ) {files : List ℕ} → p < 256 → ((x : ℕ) → startsTo g d x p ≡ false) → WalkNoted g d p files → WalkNoted g d (p + 1) files
   walking-skip p {files} h t w = record {
     long = w .long;
     first = λ x l. w .first x l ∙ ap (λ (k : List ℕ). slotOr (firstOr 256 k) (getD files x 0)) (rest-out x p h (t x));
@@ -133,7 +133,7 @@ module _ (g : Geometry) (d : List ℕ) where
 
   -- it does, and its walk is written down
   pub walking-step : (p : ℕ) {files files′ : List ℕ} {n : ℕ} → p < 256 → isSlot g d p ≡ true → inUsePrimary g d p ≡ true → n ≡ length (slots g d)
-      → files′ ≡ notes files (p + 1) (reach g d n p) → Walking g d p files → Walking g d (p + 1) files′
+      → files′ ≡ notes files (p + 1) (reach g d n p) → WalkNoted g d p files → WalkNoted g d (p + 1) files′
   walking-step p {files} {files′} {n} h a b z e w = record {
     long = ap (length {A = ℕ}) e ∙ notes-long (p + 1) (reach g d n p) files ∙ w .long;
     first = λ x l. by x l (has (reach g d n p) x) refl (ℕ-discrete (getD files x 0) 0);
@@ -181,7 +181,7 @@ module _ (g : Geometry) (d : List ℕ) where
   unfolding notes
   noting-none n p left s v files₀ files i h = sym (i ∙ ap (notes files v) (reach-none g d s h))
 
-  pub walking-end : (p : ℕ) {files : List ℕ} → 256 ≤ p → Walking g d p files → Filed g d files
+  pub walking-end : (p : ℕ) {files : List ℕ} → 256 ≤ p → WalkNoted g d p files → FileNoted g d files
   unfolding firstOr
   walking-end p {files} h w = record {
     long = w .long;

@@ -28,12 +28,12 @@ again c t = cond (eqb c 0) t 2
 
 module _ (g : Geometry) (d : List ℕ) where
   -- the walks from files below slot p are written down
-  pub record Walking (p : ℕ) (files : List ℕ) : Type 0 where
+  pub record WalkNoted (p : ℕ) (files : List ℕ) : Type 0 where
     pub long : length files ≡ 256
     pub first : (x : ℕ) → x < 256 → firstFile g d x ≡ slotOr (firstOr 256 (keep (startsTo g d x) (count p (256 - p)))) (getD files x 0)
 
   -- those from all files
-  pub record Filed (files : List ℕ) : Type 0 where
+  pub record FileNoted (files : List ℕ) : Type 0 where
     pub long : length files ≡ 256
     pub first : (x : ℕ) → x < 256 → firstFile g d x ≡ slotOr 256 (getD files x 0)
 

@@ -16,7 +16,7 @@ ghost use Rattle.layout.specs.Room.{Room, Slot, Below};
 ghost use Rattle.fault_kinds.specs.Reach.{reach};
 ghost use Rattle.fault_kinds.specs.Overlap.{runsMeet, runMeets, entriesMeet, meetsEarlier};
 ghost use Rattle.fault_kinds.specs.Tests.{pairHolds, firstFile, leads, tally, runHolds, runIn, earlier, shares};
-ghost use Rattle.fault_kinds.specs.Noted.{noted, notes, again, Walking, Filed, Leading, Told};
+ghost use Rattle.fault_kinds.specs.Noted.{noted, notes, again, WalkNoted, FileNoted, Leading, Told};
 
 fn pair_holds(image: &[u8], g: Geometry, s: usize, n: usize, k: usize) -> bool
     requires { ⌜ Room g (now image) × Slot g (now image) s × (n ≡ runs g (now image) s) × (k < 4) ⌝ }
@@ -137,8 +137,8 @@ fn note_walk(image: &[u8], g: Geometry, p: usize, n: usize, files: &mut [u8; 256
 
 // Slot p, after all slots below it: its walk, if a file starts there.
 fn note_file(image: &[u8], g: Geometry, p: usize, n: usize, files: &mut [u8; 256])
-    requires { ⌜ Room g (now image) × (p < 256) × (n ≡ length (slots g (now image))) × Walking g (now image) p (now files) ⌝ }
-    ensures { λ _. ⌜ Walking g (now (image .entry)) (p + 1) (now (files .exit)) ⌝ }
+    requires { ⌜ Room g (now image) × (p < 256) × (n ≡ length (slots g (now image))) × WalkNoted g (now image) p (now files) ⌝ }
+    ensures { λ _. ⌜ WalkNoted g (now (image .entry)) (p + 1) (now (files .exit)) ⌝ }
 {
     if !layout::is_slot(image, g, p) {
         return;
@@ -151,8 +151,8 @@ fn note_file(image: &[u8], g: Geometry, p: usize, n: usize, files: &mut [u8; 256
 
 // For each slot the first file whose walk meets it: its number plus 1, or 0 where there is none.
 pub fn note_files(image: &[u8], g: Geometry, files: &mut [u8; 256])
-    requires { ⌜ Room g (now image) × Walking g (now image) 0 (now files) ⌝ }
-    ensures { λ _. ⌜ Filed g (now (image .entry)) (now (files .exit)) ⌝ }
+    requires { ⌜ Room g (now image) × WalkNoted g (now image) 0 (now files) ⌝ }
+    ensures { λ _. ⌜ FileNoted g (now (image .entry)) (now (files .exit)) ⌝ }
 {
     let n = slots(image, g);
     let mut p = 0;
@@ -164,7 +164,7 @@ pub fn note_files(image: &[u8], g: Geometry, files: &mut [u8; 256])
 
 // The first file whose walk meets x; 256 where there is none.
 fn first_file(image: &[u8], g: Geometry, files: &[u8], x: usize) -> usize
-    requires { ⌜ Filed g (now image) (now files) × (x < 256) ⌝ }
+    requires { ⌜ FileNoted g (now image) (now files) × (x < 256) ⌝ }
     ensures { λ r. ⌜ r ≡ firstFile g (now (image .entry)) x ⌝ }
 {
     let f = layout::wide(files[x]);
@@ -176,7 +176,7 @@ fn first_file(image: &[u8], g: Geometry, files: &[u8], x: usize) -> usize
 
 // Whether some file's walk meets x.
 fn walked(image: &[u8], g: Geometry, files: &[u8], x: usize) -> bool
-    requires { ⌜ Filed g (now image) (now files) × (x < 256) ⌝ }
+    requires { ⌜ FileNoted g (now image) (now files) × (x < 256) ⌝ }
     ensures { λ r. ⌜ r ≡ has (walked g (now (image .entry))) x ⌝ }
 {
     first_file(image, g, files, x) < 256
@@ -184,7 +184,7 @@ fn walked(image: &[u8], g: Geometry, files: &[u8], x: usize) -> bool
 
 // The file that an entry in use belongs to; s itself where no walk meets it.
 pub fn file_of(image: &[u8], g: Geometry, files: &[u8], s: usize) -> usize
-    requires { ⌜ Filed g (now image) (now files) × Slot g (now image) s ⌝ }
+    requires { ⌜ FileNoted g (now image) (now files) × Slot g (now image) s ⌝ }
     ensures { λ r. ⌜ (r ≡ fileOf g (now (image .entry)) s) × Slot g (now (image .entry)) r ⌝ }
 {
     let p = first_file(image, g, files, s);
@@ -219,7 +219,7 @@ fn tell(goods: &mut [u8; 256], x: usize, t: usize)
 
 // Slot b, after all slots below it: what a walk comes to from there.
 fn tell_from(image: &[u8], g: Geometry, files: &[u8], b: usize, goods: &mut [u8; 256])
-    requires { ⌜ Room g (now image) × Filed g (now image) (now files) × (b < 256) × Leading g (now image) b (now goods) ⌝ }
+    requires { ⌜ Room g (now image) × FileNoted g (now image) (now files) × (b < 256) × Leading g (now image) b (now goods) ⌝ }
     ensures { λ _. ⌜ Leading g (now (image .entry)) (b + 1) (now (goods .exit)) ⌝ }
 {
     if !layout::is_slot(image, g, b) {
@@ -238,7 +238,7 @@ fn tell_from(image: &[u8], g: Geometry, files: &[u8], b: usize, goods: &mut [u8;
 
 // For each slot 1 where an extension there is met in some file's chain, not twice, and well formed.
 pub fn note_goods(image: &[u8], g: Geometry, files: &[u8], goods: &mut [u8; 256])
-    requires { ⌜ Room g (now image) × Filed g (now image) (now files) × Leading g (now image) 0 (now goods) ⌝ }
+    requires { ⌜ Room g (now image) × FileNoted g (now image) (now files) × Leading g (now image) 0 (now goods) ⌝ }
     ensures { λ _. ⌜ Told g (now (image .entry)) (now (goods .exit)) ⌝ }
 {
     let mut b = 0;
@@ -588,7 +588,7 @@ pub fn size_fault(image: &[u8], g: Geometry, goods: &[u8], p: usize) -> bool
 // Directory -------------------------------------------------------------------------------------------------------------
 
 pub fn directory_fault(image: &[u8], g: Geometry, files: &[u8], s: usize) -> bool
-    requires { ⌜ Room g (now image) × Slot g (now image) s × Filed g (now image) (now files) ⌝ }
+    requires { ⌜ Room g (now image) × Slot g (now image) s × FileNoted g (now image) (now files) ⌝ }
     ensures { λ r. ⌜ r ≡ directoryFault g (now (image .entry)) s ⌝ }
 {
     if !layout::flag(image, g, s, layout::IN_USE) {

@@ -241,9 +241,9 @@ pub fn block_taken(image: &[u8], g: Geometry, n: usize) -> bool
     all_set(layout::wide(image[256 * g.start + n / g.units]), g.units)
 }
 
-// How many granules are free, by one pass over the GAT, a byte at a time: the listing asks for the number alone, and the pass of the crate
-// gat, which goes bit by bit for the longest stretch, would cost it its time. From the last block on, as a growth counts (crate supply), so
-// that the same laws serve both.
+// How many granules are free, by one pass over the GAT, a byte at a time: the listing asks for the number alone, and the pass of
+// `free_space`, which looks for the longest stretch too, would cost it its time. From the last block on, as a growth counts
+// (`growth_search`), so that the same laws serve both.
 pub fn free_count(image: &[u8], g: Geometry) -> usize
     requires { ⌜ Room g (now image) ⌝ }
     ensures { λ r. ⌜ r ≡ length (freeGranules g (now (image .entry))) ⌝ }

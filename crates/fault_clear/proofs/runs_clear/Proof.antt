@@ -1,5 +1,5 @@
 use Rattle.fault_clear.proofs.Passes.{clearing-start}
-use Rattle.fault_clear.specs.Clear.{Clearing}
+use Rattle.fault_clear.specs.Clear.{ClearThrough}
 use Rattle.check_map.specs.Owners.{standing}
 use borrow.Author.Tests.{not-false}
 use borrow.Author.Needs.{needs}
@@ -13,7 +13,7 @@ use Rattle.check_map.proofs.gat_map.Reads as gat-map-reads
 use Rattle.fault_clear.proofs.taken_off.Reads as taken-off-reads
 
 abbrev Inv-loop : tie.InvT-loop
-Inv-loop image g map₀ s₀ map s = Clearing g image s (standing g image map) × (s ≤ 256)
+Inv-loop image g map₀ s₀ map s = ClearThrough g image s (standing g image map) × (s ≤ 256)
 
 abbrev μ-loop : tie.MeasureT-loop
 μ-loop image g map₀ s₀ map s = 256 - s

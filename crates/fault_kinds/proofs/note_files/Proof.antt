@@ -1,5 +1,5 @@
 use Rattle.fault_kinds.proofs.Noting.{walking-end}
-use Rattle.fault_kinds.specs.Noted.{Walking}
+use Rattle.fault_kinds.specs.Noted.{WalkNoted}
 use borrow.Author.Needs.{needs}
 use native.Mathlib.Omega.{arith}
 use Prim.Native.Nat.{_-_, _≤_}
@@ -11,7 +11,7 @@ use Rattle.fault_kinds.proofs.note_file.Reads as note-file-reads
 use Rattle.fault_kinds.proofs.slots.Reads as slots-reads
 
 abbrev Inv-loop : tie.InvT-loop
-Inv-loop image g files₀ n p₀ files p = Walking g image p files × (p ≤ 256)
+Inv-loop image g files₀ n p₀ files p = WalkNoted g image p files × (p ≤ 256)
 
 abbrev μ-loop : tie.MeasureT-loop
 μ-loop image g files₀ n p₀ files p = 256 - p
