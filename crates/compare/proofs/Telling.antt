@@ -13,6 +13,7 @@ use Rattle.meaning.specs.Refusal.{unplaced, naming}
 use Rattle.meaning.specs.declared.Refusal.{Refusal}
 use Rattle.meaning.specs.Lists.{count, keep, all}
 use Rattle.lists.specs.Members.{length-count}
+use Rattle.lists.specs.Counting.{keep-under}
 use Rattle.meaning.specs.Layout.{slots, isSlot, field}
 use Rattle.meaning.specs.Names.{letter, wellFormed}
 use Rattle.meaning.specs.Entries.{inUsePrimary, nameOf}
@@ -39,17 +40,6 @@ pub whole : (g : Geometry) (d : List ℕ) {c : Refusal} → c ≡ check g d → 
 whole g d e z = let k = checked g d e z in record { sound = sound g d (k .fits) (k .sound); holds = facts.sound g d (k .sound) }
 
 -- so many names at the most
-keep-length : {A : Type 0} (p : A → Bool) (xs : List A) → length (keep p xs) ≤ length xs
-keep-length p [] = omega arith
-keep-length p (x ∷ xs) = by (keep-length p xs) (p x) refl
-  where
-    by : length (keep p xs) ≤ length xs → (t : Bool) → p x ≡ t → length (keep p (x ∷ xs)) ≤ suc (length xs)
-    by ih true e = rw (keep-yes p e xs) (omega arith)
-    by ih false e = rw (keep-no p e xs) (omega arith)
-
-keep-under : {A : Type 0} (p : A → Bool) (xs : List A) {n : ℕ} → length xs ≤ n → length (keep p xs) ≤ n
-keep-under p xs h = let k = keep-length p xs in omega arith
-
 slots-length : (g : Geometry) (d : List ℕ) → length (slots g d) ≤ 256
 unfolding slots
 slots-length g d = keep-under (isSlot g d) (count 0 256) (subst (λ (n : ℕ). n ≤ 256) (sym (length-count 0 256)) (omega arith))

@@ -55,8 +55,7 @@ othersOf f = attribute f 0 ∷ attribute f 1 / 32 ∷ drop 3 (f .attributes)
 
 -- only the name counts: files only in the first (kind 1), only in the second (2), or no difference (0)
 abbrev pub nameOnly : List ℕ → ℕ → Difference
-nameOnly n kind =
-    record { refusal = unplaced 0; kind = kind; name = n; at = 0; contents = false; size = false; date = false; other = false }
+nameOnly n kind = record { refusal = unplaced 0; kind = kind; name = n; at = 0; contents = false; size = false; date = false; other = false }
 
 -- in both: unlike (kind 3), with which of size, date and other attributes differ, or no difference (0). Where the files stand on their
 -- disks, and how many granules they own, is not asked: placement on disk is no difference.
@@ -90,8 +89,7 @@ isOne x = not (eqb (x .kind) 0)
 
 -- nothing is told: a refusal, naming the image, or "no more", which is accepted and names none
 abbrev pub tellsNone : Refusal → Difference
-tellsNone c =
-    record { refusal = c; kind = 0; name = replicate 11 0; at = 0; contents = false; size = false; date = false; other = false }
+tellsNone c = record { refusal = c; kind = 0; name = replicate 11 0; at = 0; contents = false; size = false; date = false; other = false }
 
 unfoldable pub tellFirst : List Difference → Difference
 tellFirst [] = tellsNone (unplaced 0)

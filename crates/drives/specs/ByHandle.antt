@@ -21,8 +21,7 @@ unheld h = record { refusal = noSuchDrive; handle = h }
 
 -- "A sector read then hands back a part of whichever image holds the file, and says which (0 on a refusal)"
 abbrev pub partOn : ℕ → Part → DrivePart
-partOn n a =
-    record { refusal = naming′ n (a .refusal); drive = driveOf n (a .refusal); from = a .from; to = a .to }
+partOn n a = record { refusal = naming′ n (a .refusal); drive = driveOf n (a .refusal); from = a .from; to = a .to }
 
 -- a refused sector read hands back an empty part: that at place 0 of drive 0's image
 abbrev pub noPart : Refusal → DrivePart

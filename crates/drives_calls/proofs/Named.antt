@@ -10,6 +10,7 @@ use lib.ListN.{length}
 use borrow.Author.Tests.{eq-eqb, ne-eqb}
 use Rattle.meaning.specs.Lists.{count, keep, has, all, firstOr}
 use Rattle.lists.specs.Members.{length-count}
+use Rattle.lists.specs.Counting.{keep-under}
 use Rattle.meaning.specs.Layout.{slots, isSlot, hit}
 use Rattle.meaning.specs.Names.{comesIn, hash}
 use Rattle.meaning.specs.Free.{freeSlots}
@@ -77,17 +78,6 @@ module _ (p : Pair) {c c₀ c₁ : Refusal} (q : c ≡ ofBoth c₀ c₁) (e₀ :
   tested-is = q ∙ (λ i. ofBoth (e₀ i) (e₁ i))
 
 -- Counting -------------------------------------------------------------------------------------------------------------------------
-
-keep-few : (f : ℕ → Bool) (xs : List ℕ) → length (keep f xs) ≤ length xs
-keep-few f [] = omega arith
-keep-few f (x ∷ xs) = by (keep-few f xs) (f x)
-  where
-    by : length (keep f xs) ≤ length xs → (t : Bool) → length (cond t (x ∷ keep f xs) (keep f xs)) ≤ suc (length xs)
-    by h true = omega arith
-    by h false = omega arith
-
-keep-under : (f : ℕ → Bool) (xs : List ℕ) {k : ℕ} → length xs ≤ k → length (keep f xs) ≤ k
-keep-under f xs h = let a = keep-few f xs in omega arith
 
 module _ (g : Geometry) (d : List ℕ) where
   compared-few : (n xs : List ℕ) → LookUp.comparedIn g d n xs ≤ length xs

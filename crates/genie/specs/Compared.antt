@@ -23,5 +23,4 @@ abbrev pub shortOf : List ℕ → Refusal → ℕ × ℕ × ℕ × ℕ × ℕ ×
 shortOf b c = (c .number, c .at, c .image, 0, 0, 0, b)
 
 abbrev pub exportedCompare : Geometry → List ℕ → Geometry → List ℕ → ℕ → List ℕ → ℕ × ℕ × ℕ × ℕ × ℕ × ℕ × List ℕ
-exportedCompare g d g′ d′ i b =
-    long nameBytes b (shortOf b (shortOfTwo (check g d) (check g′ d′))) (tellsDifference b (compare g d g′ d′ i))
+exportedCompare g d g′ d′ i b = long nameBytes b (shortOf b (shortOfTwo (check g d) (check g′ d′))) (tellsDifference b (compare g d g′ d′ i))

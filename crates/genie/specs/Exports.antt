@@ -38,8 +38,7 @@ use Rattle.genie_codec.specs.Words.{modeOf, told}
 
 -- the six numbers that state a new file
 abbrev pub newFile : ℕ → ℕ → ℕ → ℕ → ℕ → ℕ → NewFile
-newFile day month year len main worker =
-    record { day = day; month = month; year = year; len = len; main = main; worker = worker }
+newFile day month year len main worker = record { day = day; month = month; year = year; len = len; main = main; worker = worker }
 
 -- so for a slice of at least n bytes, and so for a shorter one
 abbrev pub long : {A : Type 0} → ℕ → List ℕ → A → A → A

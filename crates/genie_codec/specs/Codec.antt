@@ -26,8 +26,7 @@ four b i = two b i + 65536 * two b (i + 2)
 
 -- every value that the bytes can hold is a handle
 unfoldable pub handleOf : List ℕ → Handle
-handleOf b =
-    record { slot = byte b 0; name = take 11 (drop 8 b); at = four b 4; len = two b 2; level = byte b 1 }
+handleOf b = record { slot = byte b 0; name = take 11 (drop 8 b); at = four b 4; len = two b 2; level = byte b 1 }
 
 -- so many bytes of a number, low byte first
 abbrev pub lowFirst : ℕ → ℕ → List ℕ

@@ -272,7 +272,7 @@ module _ (g : Geometry) (d : List ℕ) (c : Sound g d) (k : Places.Fits g d) (p 
           extended-small n h (freeSlots g d) slots-small d′ r
 
   unhooked-small : (l : List ℕ) (x b : ℕ) → Small l → Small (unhooked g l x b)
-  unfolding unhooked words
+  unfolding unhooked
   unhooked-small l x b r =
       small-field g d k b 0x1f (small-field g d k b 0x1e (small-field g d k x 0x1f (small-field g d k x 0x1e
       (small-set (hitAt g x) (small-field g d k x 0 r (omega arith)) (omega arith)) (omega arith)) (omega arith)) (omega arith)) (omega arith)

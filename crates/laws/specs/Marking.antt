@@ -228,7 +228,7 @@ module _ (g : Geometry) (d : List ℕ) (v h : ℕ) (ns xs : List ℕ) (m : Marks
       (λ l k j. Places.marked-other g v (m .digit′) l k n (λ e. o (rw e j))))
 
   pub mark-granule : (n : ℕ) → In n ns → digit (byte (marking g v h d ns xs) (gatAt g n)) (n % g .units) ≡ v
-  unfolding Long first words
+  unfolding Long first
   mark-granule n i =
       rw (gat-aside n (m .granules′ n i))
       (Places.through-makes Long (λ l. digit (byte l (gatAt g n)) (n % g .units) ≡ v) (Places.marked g v) d i

@@ -128,7 +128,7 @@ module _ (g : Geometry) (d d′ : List ℕ) (c : Sound g d) (p : ℕ) (h : Chang
 
     -- its bytes beyond the directory, a system file's too
     beyond-bytes : (q : ℕ) → IsFile g d q → q ≢ p → beyondAt g d′ q .bytes ≡ beyondAt g d q .bytes
-    unfolding beyondAt place words
+    unfolding beyondAt place
     beyond-bytes q f n =
         rw (size-stays q f n, Change.owned-stays g d d′ c p h q f n, Frame.directory-eq g d d′ (h .above))
         (Members.map-eq _ _ (count 0 (sizeOf g d q)) (λ j k. one j (omega (arith, Members.count-in j 0 (sizeOf g d q) k))

@@ -121,7 +121,6 @@ directory-lt g d n f i =
 -- a place in no granule of the directory is in no sector of it
 pub outside : (g : Geometry) (d : List ℕ) (i : ℕ) → g .start % granuleSectors g ≡ 0 → Dir g d → (In (i / granuleBytes g) (directoryGranules g d) → ⊥)
     → (i < 256 * g .start) ⊎ (256 * (g .start + directorySectors g d) ≤ i)
-unfolding words
 outside g d i e f n = go (decLt i (256 * g .start)) (decLt i (256 * (g .start + directorySectors g d)))
   where
     go : Dec (i < 256 * g .start) → Dec (i < 256 * (g .start + directorySectors g d)) → (i < 256 * g .start) ⊎ (256 * (g .start + directorySectors g d) ≤ i)

@@ -1,11 +1,12 @@
 -- Lists of rising numbers, and what is kept of a list. Nothing here knows of a disk.
 use mathlib.Core.Path.{_≡_, refl}
+use mathlib.Core.Logic.{_⊎_, inl, inr}
 use mathlib.Core.Bool.{Bool, true, false, cond, _&&_}
 use mathlib.Core.List.{List, [], _∷_}
-use Prim.Native.Nat.{ℕ, zero, suc, _+_, _<_}
+use Prim.Native.Nat.{ℕ, zero, suc, _+_, _≤_, _<_}
 use native.Mathlib.Omega.{arith}
 use lib.ListN.{length, getD}
-use Rattle.meaning.specs.Lists.{count, keep}
+use Rattle.meaning.specs.Lists.{count, keep, firstOr}
 use Rattle.lists.specs.Members
 use Rattle.lists.specs.Members.{In}
 use Rattle.laws.specs.Others.{getD-in}
@@ -31,6 +32,16 @@ getD-rising done i j a b = absurd (omega arith)
 getD-rising (next f r) i zero a b = absurd (omega arith)
 getD-rising (next {xs = xs} f r) zero (suc j) a b = f (getD xs j 0) (getD-in xs j (omega arith))
 getD-rising (next f r) (suc i) (suc j) a b = getD-rising r i j (omega arith) (omega arith)
+
+-- the first of a rising list is its lowest
+pub first-lowest : (z : ℕ) {q : ℕ} {xs : List ℕ} → Rising xs → In q xs → firstOr z xs ≤ q
+unfolding firstOr
+first-lowest z done i = Members.none-in i
+first-lowest z {q} (next {x = x} {xs = xs} f r) i = go (Members.in-cons i)
+  where
+    go : (q ≡ x) ⊎ In q xs → x ≤ q
+    go (inl e) = omega arith
+    go (inr j) = omega (arith, f q j)
 
 pub keep-keep : (p q : ℕ → Bool) (xs : List ℕ) → keep q (keep p xs) ≡ keep (λ x. p x && q x) xs
 keep-keep p q [] = refl

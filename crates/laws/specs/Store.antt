@@ -1,9 +1,10 @@
 -- Bytes stored at places one after the other, and the places of a file
-use mathlib.Core.Path.{_≡_, refl, ap, _∙_}
+use mathlib.Core.Path.{_≡_, refl, ap, sym, _∙_}
 use mathlib.Core.Logic.{_≢_}
-use mathlib.Core.List.{List, [], _∷_}
+use mathlib.Core.List.{List, [], _∷_, _++_}
 use Prim.Native.Nat.{ℕ, zero, suc, _+_, _-_, _*_, _/_, _≤_, _<_}
 use native.Mathlib.Omega.{arith}
+use native.Mathlib.Nat.{add-zero}
 use native.Mathlib.Decide.{ℕ-discrete}
 use lib.ListN.{length, getD, set, length-set}
 use lib.Seq.{getD-set-same, getD-set-other}
@@ -29,6 +30,14 @@ unfolding store
 store-other F [] d i j n = refl
 store-other F (b ∷ bs) d i j n =
     store-other F bs (set d (F i) b) (i + 1) j (λ k a e. n k (omega arith) (omega arith)) ∙ getD-set-other d (F i) j b 0 (n i (omega arith) (omega arith))
+
+-- a store by parts
+pub store-append : (f : ℕ → ℕ) (d : List ℕ) (i : ℕ) (xs ys : List ℕ) → store f d i (xs ++ ys) ≡ store f (store f d i xs) (i + length xs) ys
+unfolding store
+store-append f d i [] ys = ap (λ (k : ℕ). store f d k ys) (sym (add-zero i))
+store-append f d i (x ∷ xs) ys =
+    let e : i + 1 + length xs ≡ i + suc (length xs) = omega arith in
+    store-append f (set d (f i) x) (i + 1) xs ys ∙ ap (λ (k : ℕ). store f (store f (set d (f i) x) (i + 1) xs) k ys) e
 
 pub store-at : (F : ℕ → ℕ) (bs d : List ℕ) (i k : ℕ) → i ≤ k → k < i + length bs
     → ((a b : ℕ) → i ≤ a → a < i + length bs → i ≤ b → b < i + length bs → F a ≡ F b → a ≡ b)

@@ -70,8 +70,7 @@ module _ (g : Geometry) (d : List ℕ) (c : Sound g d) (k : Places.Fits g d) (p 
       let a = Marking.file-tail g d 0 0 p (f .slot) marks x i in
       record {
         pairs = Frame.pairs-next g d gone x (Frame.tail-pairs g d gone x a) (e .pairs);
-        linked = Frame.linked-next g d gone 0x90 0x80 x a next
-            (e .linked);
+        linked = Frame.linked-next g d gone 0x90 0x80 x a next (e .linked);
         run = Frame.run-next g d gone x (Frame.tail-pairs g d gone x a) (e .run);
       }
     where

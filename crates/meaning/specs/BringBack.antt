@@ -32,8 +32,7 @@ backEntry g hash d x = set (Layout.setField g d x 0 (withBit 4 (Layout.field g d
 
 -- the disk with the killed file at slot s: its granules taken, its entry and its extensions brought back
 abbrev pub broughtBack : Geometry → List ℕ → ℕ → List ℕ
-broughtBack g d s =
-    through (backEntry g (Names.hash (Entries.nameOf g d s))) (through (Layout.takeGranule g) d (Chain.owned g d s)) (Chain.chain g d s)
+broughtBack g d s = through (backEntry g (Names.hash (Entries.nameOf g d s))) (through (Layout.takeGranule g) d (Chain.owned g d s)) (Chain.chain g d s)
 
 module _ (g : Geometry) (d : List ℕ) where
   -- an entry of a killed file: what 01 wants of an entry in use, but that an extension's byte 00 is now 80H and no GAT bit is asked for

@@ -23,9 +23,7 @@ countHolds n e = not (eqb n 0) || eqb e 0
 module _ (g : Geometry) (d : List ℕ) where
   -- The 1FH byte is allowed and the directory fits the image.
   unfoldable pub lengthHolds : Bool
-  lengthHolds =
-      all (has (0 ∷ 5 ∷ 10 ∷ 15 ∷ 20 ∷ []) (Layout.aboveTen g d)
-      ∷ leb (g .start + Layout.directorySectors g d) (Layout.sectors g) ∷ [])
+  lengthHolds = all (has (0 ∷ 5 ∷ 10 ∷ 15 ∷ 20 ∷ []) (Layout.aboveTen g d) ∷ leb (g .start + Layout.directorySectors g d) (Layout.sectors g) ∷ [])
 
   -- Directory granules are set in the GAT.
   abbrev pub directoryTaken : Bool
@@ -46,9 +44,7 @@ module _ (g : Geometry) (d : List ℕ) where
   -- x follows s as an extension with these flags: so stands its byte 00 (90H of one in use, 80H of one killed); it points back, and has at
   -- least one run
   unfoldable pub followsBy : ℕ → ℕ → ℕ → Bool
-  followsBy flags s x =
-      all (Layout.isSlot g d x ∷ eqb (Layout.field g d x 0) flags ∷ eqb (Layout.field g d x 1) s
-      ∷ leb 1 (Entries.runs g d x) ∷ [])
+  followsBy flags s x = all (Layout.isSlot g d x ∷ eqb (Layout.field g d x 0) flags ∷ eqb (Layout.field g d x 1) s ∷ leb 1 (Entries.runs g d x) ∷ [])
 
   -- Markers are FEH or FFH. Each FEH link leads to such an extension. Each entry before the last of a chain has four runs.
   unfoldable pub linkHoldsBy : ℕ → ℕ → Bool
@@ -91,9 +87,7 @@ module _ (g : Geometry) (d : List ℕ) where
 
   -- Directory granules are in no run of a file without the system flag.
   unfoldable pub offDirectory : ℕ → Bool
-  offDirectory p =
-      any (Entries.system g d p
-      ∷ every (λ n. not (has (Layout.directoryGranules g d) n)) (Chain.owned g d p) ∷ [])
+  offDirectory p = any (Entries.system g d p ∷ every (λ n. not (has (Layout.directoryGranules g d) n)) (Chain.owned g d p) ∷ [])
 
   unfoldable pub fileHolds : ℕ → Bool
   fileHolds p = all (nameHolds g d p ∷ hashHolds p ∷ sizeHolds g d p ∷ offDirectory p ∷ [])
@@ -101,8 +95,7 @@ module _ (g : Geometry) (d : List ℕ) where
   -- names differ
   unfoldable pub namesDiffer : List ℕ → Bool
   namesDiffer [] = true
-  namesDiffer (p ∷ ps) =
-      every (λ q. not (same (Entries.nameOf g d p) (Entries.nameOf g d q))) ps && namesDiffer ps
+  namesDiffer (p ∷ ps) = every (λ q. not (same (Entries.nameOf g d p) (Entries.nameOf g d q))) ps && namesDiffer ps
 
   -- every entry that some file's chain meets, file by file
   unfoldable pub met : List ℕ

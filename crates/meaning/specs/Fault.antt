@@ -42,9 +42,7 @@ module _ (g : Geometry) (d : List ℕ) where
 
   -- The marker is FEH, the link leads to an in-use extension, and the entry, which is not the last of its chain, has four runs.
   unfoldable pub handsOn : ℕ → Bool
-  handsOn s =
-      all (Consistent.pairsHold g d s ∷ eqb (Entries.marker g d s) 0xfe ∷ usedExtension (Entries.link g d s)
-      ∷ eqb (Entries.runs g d s) 4 ∷ [])
+  handsOn s = all (Consistent.pairsHold g d s ∷ eqb (Entries.marker g d s) 0xfe ∷ usedExtension (Entries.link g d s) ∷ eqb (Entries.runs g d s) 4 ∷ [])
 
   -- The entry is the last of its chain: the marker is FFH.
   unfoldable pub ends : ℕ → Bool
@@ -58,8 +56,7 @@ module _ (g : Geometry) (d : List ℕ) where
   -- this walk has met, not the others: two walks through one entry both go on from it.
   unfoldable pub walkFrom : ℕ → List ℕ → ℕ → List ℕ
   walkFrom zero before s = []
-  walkFrom (suc left) before s =
-      cond (has before s) [] (s ∷ cond (handsOn s) (walkFrom left (s ∷ before) (Entries.link g d s)) [])
+  walkFrom (suc left) before s = cond (has before s) [] (s ∷ cond (handsOn s) (walkFrom left (s ∷ before) (Entries.link g d s)) [])
 
   -- the entries that the walk from the file at slot p meets
   unfoldable pub walk : ℕ → List ℕ
@@ -81,8 +78,7 @@ module _ (g : Geometry) (d : List ℕ) where
 
   -- An extension that is met in some file's chain, not twice, and well formed
   unfoldable pub goodExtension : ℕ → Bool
-  goodExtension x =
-      let m = metFrom x in all (eqb (length m) 1 ∷ every (λ b. Consistent.followsBy g d 0x90 b x) m ∷ [])
+  goodExtension x = let m = metFrom x in all (eqb (length m) 1 ∷ every (λ b. Consistent.followsBy g d 0x90 b x) m ∷ [])
 
   -- Kinds -----------------------------------------------------------------------------------------------------------------
 
@@ -100,14 +96,11 @@ module _ (g : Geometry) (d : List ℕ) where
 
   -- 24, duplicate name: names differ. Of two slots the higher is at fault.
   unfoldable pub duplicateFault : ℕ → Bool
-  duplicateFault p =
-      all (Entries.inUsePrimary g d p
-      ∷ some (λ q. ltb q p && same (Entries.nameOf g d q) (Entries.nameOf g d p)) (Chain.files g d) ∷ [])
+  duplicateFault p = all (Entries.inUsePrimary g d p ∷ some (λ q. ltb q p && same (Entries.nameOf g d q) (Entries.nameOf g d p)) (Chain.files g d) ∷ [])
 
   -- 25, chain: belongs to the entry with the bad marker, pairs or link, or to the extension met in no file's chain, met twice, or badly formed.
   unfoldable pub chainFault : ℕ → Bool
-  chainFault s =
-      all (Entries.inUse g d s ∷ any (badEntry s ∷ all (Entries.extension g d s ∷ not (goodExtension s) ∷ []) ∷ []) ∷ [])
+  chainFault s = all (Entries.inUse g d s ∷ any (badEntry s ∷ all (Entries.extension g d s ∷ not (goodExtension s) ∷ []) ∷ []) ∷ [])
 
   -- 26, run off the disk: runs lie on the disk, their first unit is below units per block. A run's fault belongs to the entry that holds it.
   unfoldable pub runFault : ℕ → Bool
@@ -155,9 +148,7 @@ module _ (g : Geometry) (d : List ℕ) where
   -- the lowest slot at fault; where there is none, `after`
   unfoldable pub lowest : Refusal → List ℕ → Refusal
   lowest after [] = after
-  lowest after (s ∷ ss) =
-      let rest = lowest after ss in
-      let n = faultAt s in cond (eqb n 0) rest (placed n s)
+  lowest after (s ∷ ss) = let rest = lowest after ss in let n = faultAt s in cond (eqb n 0) rest (placed n s)
 
   -- Directory length comes before all slots, a clear directory granule after them, both without a slot. 0: there is no fault.
   unfoldable pub fault : Refusal

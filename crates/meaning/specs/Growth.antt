@@ -51,9 +51,7 @@ newExtension e = 0x90 ∷ e ∷ (replicate 20 0 ++ replicate 10 0xff)
 module _ (g : Geometry) (p : ℕ) where
   -- the granule just after the last run, where there is a run
   abbrev pub after : List ℕ → ℕ
-  after d =
-      let w = Chain.lastPair g p d in
-      Entries.runStart g d (w .0) (w .1) + Entries.runLength g d (w .0) (w .1)
+  after d = let w = Chain.lastPair g p d in Entries.runStart g d (w .0) (w .1) + Entries.runLength g d (w .0) (w .1)
 
   -- the one just after the last run, if it exists, is free and the run has fewer than 32 (and there is a run at all)
   unfoldable pub lengthens : List ℕ → Bool
@@ -70,8 +68,7 @@ module _ (g : Geometry) (p : ℕ) where
 
   -- slot x as an extension after entry e, hooked by marker FEH and link. An extension's HIT byte is its file's hash.
   abbrev pub withExtension : List ℕ → ℕ → ℕ → List ℕ
-  withExtension d e x =
-      sets (sets (Entries.setLink g d e 0xfe x) (Layout.entryAt g x) (newExtension e)) (Layout.hitAt g x) (Layout.hit g d p ∷ [])
+  withExtension d e x = sets (sets (Entries.setLink g d e 0xfe x) (Layout.entryAt g x) (newExtension e)) (Layout.hitAt g x) (Layout.hit g d p ∷ [])
 
   -- A run beyond the fourth starts an extension in the first permitted slot.
   unfoldable pub extended : List ℕ → List ℕ → ℕ → ℕ → Grown

@@ -49,9 +49,7 @@ noPlace = 11
 -- the place of the first byte that keeps a name from being well formed ("a blank at place 0 is bad, and a non-blank after a blank in name or
 -- type"); 0 where it has not 11 bytes
 unfoldable pub badPlace : List ℕ → ℕ
-badPlace n =
-    let k = good (take 8 n) in
-    cond (eqb (length n) 11 && letter (getD n 0 0)) (cond (ltb k 8) k (8 + good (drop 8 n))) 0
+badPlace n = let k = good (take 8 n) in cond (eqb (length n) 11 && letter (getD n 0 0)) (cond (ltb k 8) k (8 + good (drop 8 n))) 0
 
 -- "the name check now hands back the folded name, or the place of the first bad byte" (02 §7). Look up, open and create go on with the name.
 abbrev pub comesIn : List ℕ → Incoming

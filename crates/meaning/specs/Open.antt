@@ -24,8 +24,7 @@ module _ (g : Geometry) (d : List ℕ) where
 
   -- Position 0, record length as given; the stored level if the given code equals the worker code only.
   abbrev pub openedAt : ℕ → List ℕ → ℕ → Bool → ℕ → Handle
-  openedAt s n len checking code =
-      record { slot = s; name = n; at = 0; len = len; level = cond (full s checking code) 0 (Entries.accessLevel g d s) }
+  openedAt s n len checking code = record { slot = s; name = n; at = 0; len = len; level = cond (full s checking code) 0 (Entries.accessLevel g d s) }
 
   -- 5: wrong password code
   abbrev pub openRefusals : List ℕ → ℕ → Bool → ℕ → List (ℕ × Bool)

@@ -76,8 +76,7 @@ writtenTo g m i r f =
 
 -- allot: the granules that hold sector k, if there were fewer
 unfoldable pub allottedTo : Geometry → ℕ → File → File
-allottedTo g k f =
-    record { attributes = f .attributes; granules = max (f .granules) (Allot.granulesTo g k); bytes = f .bytes }
+allottedTo g k f = record { attributes = f .attributes; granules = max (f .granules) (Allot.granulesTo g k); bytes = f .bytes }
 
 -- trim: the granules that the bytes need, unless F is set
 unfoldable pub trimmed : Geometry → File → File

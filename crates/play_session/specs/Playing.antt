@@ -42,9 +42,7 @@ module _ (g : Geometry) (d : List ℕ) where
 
   -- a fresh open, checking off, then the call by its handle; a refused open is the result
   unfoldable pub afterOpen : List ℕ → ℕ → (Handle → Single.Call) → ℕ × List ℕ
-  afterOpen n len c =
-      let a = open′ g d n len false 0 in
-      cond (Refusals.accepted (a .refusal .number)) (single (c (a .handle))) (a .refusal .number, d)
+  afterOpen n len c = let a = open′ g d n len false 0 in cond (Refusals.accepted (a .refusal .number)) (single (c (a .handle))) (a .refusal .number, d)
 
   -- Each of the seven on the file called n. A write is lent a buffer full of its fill byte; a read's buffer is looked at by nobody.
   unfoldable pub made : List ℕ → Call → ℕ × List ℕ
@@ -64,10 +62,7 @@ module _ (g : Geometry) (ns : List (List ℕ)) where
   -- The steps in turn: their results, and the image at the end.
   unfoldable pub played : List Step → List ℕ → List ℕ × List ℕ
   played [] d = ([], d)
-  played (s ∷ ss) d =
-      let a = stepped d s in
-      let b = played ss (a .1) in
-      (a .0 ∷ b .0, b .1)
+  played (s ∷ ss) d = let a = stepped d s in let b = played ss (a .1) in (a .0 ∷ b .0, b .1)
 
   -- "one result number a call"
   pub one-each : (ss : List Step) (d : List ℕ) → length (played ss d .0) ≡ length ss

@@ -55,9 +55,7 @@ number-snoc (a ∷ bs) b =
 pub there-and-back : (w v : ℕ) → v < 2 ^ w → number (bitsOf w v) ≡ v
 unfolding bitsOf number
 there-and-back zero v h = omega arith
-there-and-back (suc w) v h =
-    let ih = there-and-back w (v / 2) (omega (arith, rw pow-succ' at h)) in
-    number-snoc (bitsOf w (v / 2)) (v % 2) ∙ omega arith
+there-and-back (suc w) v h = let ih = there-and-back w (v / 2) (omega (arith, rw pow-succ' at h)) in number-snoc (bitsOf w (v / 2)) (v % 2) ∙ omega arith
 
 -- one bit more in front
 bitsOf-cons : (w b x : ℕ) → b < 2 → x < 2 ^ w → bitsOf (suc w) (b * 2 ^ w + x) ≡ b ∷ bitsOf w x
@@ -82,8 +80,7 @@ number-small (b ∷ bs) h =
 pub back-and-there : (bs : List ℕ) → AreBits bs → bitsOf (length bs) (number bs) ≡ bs
 unfolding bitsOf number
 back-and-there [] h = refl
-back-and-there (b ∷ bs) h =
-    bitsOf-cons (length bs) b (number bs) (h .0) (number-small bs (h .1)) ∙ ap (λ (x : List ℕ). b ∷ x) (back-and-there bs (h .1))
+back-and-there (b ∷ bs) h = bitsOf-cons (length bs) b (number bs) (h .0) (number-small bs (h .1)) ∙ ap (λ (x : List ℕ). b ∷ x) (back-and-there bs (h .1))
 
 -- Lists of bits.
 

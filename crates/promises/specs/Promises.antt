@@ -365,8 +365,7 @@ module _ (g : Geometry) (d : List ℕ) where
   -- 11 E set and more granules needed than owned; 9 more further granules needed than are free; 8 (02 §13) "no choice of free granules
   -- whatever" fits
   abbrev pub growthCases : Handle → ℕ → Table
-  growthCases h more =
-      (11, T (mayNotGrow (fileOf h)) × (0 < more)) ∷ (9, length (freeGranules g d) < more) ∷ (8, NothingFits g d (h .slot) more) ∷ []
+  growthCases h more = (11, T (mayNotGrow (fileOf h)) × (0 < more)) ∷ (9, length (freeGranules g d) < more) ∷ (8, NothingFits g d (h .slot) more) ∷ []
 
   -- 4 name not found
   abbrev pub NoFile : List ℕ → Type 0
@@ -378,8 +377,7 @@ module _ (g : Geometry) (d : List ℕ) where
 
   -- of a read of n bytes; no record length is over the highest position
   abbrev pub readTable : Handle → ℕ → List ℕ → Table
-  readTable h n b =
-      handleCases h (InRange g h × (n ≤ highest g) × (n ≤ length b)) ((6, 5 < h .level) ∷ (10, length (fileOf h .bytes) < h .at + n) ∷ [])
+  readTable h n b = handleCases h (InRange g h × (n ≤ highest g) × (n ≤ length b)) ((6, 5 < h .level) ∷ (10, length (fileOf h .bytes) < h .at + n) ∷ [])
 
   -- of a write of n bytes
   abbrev pub writeTable : Mode → Handle → ℕ → List ℕ → Table
@@ -395,8 +393,7 @@ module _ (g : Geometry) (d : List ℕ) where
   table (creates n f checking) =
       diskCases ((12, (NewInRange f → ⊥)) ∷ badName n ∷ (5, WrongCode (fold n) checking (f .main)) ∷ (8, NoFile (fold n) × (freeSlots g d ≡ [])) ∷ [])
   table (reads a h b) = readTable h (howMany a (h .len) b) b
-  table (readsSector h k) =
-      handleCases h (InRange g h × (k < sectorNumbers g)) ((6, 5 < h .level) ∷ (10, sectorCount g d (h .slot) ≤ k) ∷ [])
+  table (readsSector h k) = handleCases h (InRange g h × (k < sectorNumbers g)) ((6, 5 < h .level) ∷ (10, sectorCount g d (h .slot) ≤ k) ∷ [])
   table (writes a m h b) = writeTable m h (howMany a (h .len) b) b
   table (allots h k) = handleCases h (InRange g h × (k < sectorNumbers g)) (barred 4 h ∷ growthCases h (lacks h (granulesTo g k)))
   table (trims h) = handleCases h (InRange g h) (barred 4 h ∷ [])

@@ -42,16 +42,6 @@ use Rattle.promises.specs.Grow.{Grew, Chooses}
 use Rattle.promises_choice.specs.Statement
 use Rattle.promises_choice.specs.Statement.{NextGranule, LowestGranule, StretchEnd, FirstSlot, NewExtension, TakesBy, OneMore, StepsBy, NoPlace, Sticks}
 
--- the first of a rising list is its lowest
-first-lowest : (z : ℕ) {q : ℕ} {xs : List ℕ} → Rising xs → In q xs → firstOr z xs ≤ q
-unfolding firstOr
-first-lowest z Rising.Rising.done i = Members.none-in i
-first-lowest z {q} (Rising.Rising.next {x = x} {xs = xs} f r) i = go (Members.in-cons i)
-  where
-    go : (q ≡ x) ⊎ In q xs → x ≤ q
-    go (inl e) = omega arith
-    go (inr j) = omega (arith, f q j)
-
 -- Free granules and slots -------------------------------------------------------------------------------------------------------------
 
 module _ (g : Geometry) (d : List ℕ) where
@@ -67,7 +57,7 @@ module _ (g : Geometry) (d : List ℕ) where
       go m l b (Members.Test.fails n) =
           let i = Members.in-keep (λ n. not (taken g d n)) (Members.in-count m 0 (granules g) (omega arith) (omega (arith, l, b))) (not-T (taken g d m) n) in
           let r = Rising.keep-rising (λ n. not (taken g d n)) (Rising.count-rising 0 (granules g)) in
-          absurd (omega (arith, l, first-lowest 0 r i))
+          absurd (omega (arith, l, Rising.first-lowest 0 r i))
 
   -- 02's second choice
   pub end-is : (p : ℕ) → 1 ≤ length (freeGranules g d) → StretchEnd g p d (longestFree g d)
@@ -120,7 +110,7 @@ module _ (g : Geometry) (d : List ℕ) where
       record {
         may = free-permitted x i;
         unused = Create.slots-free g d x i .1;
-        lower = λ y l m z. let k = first-lowest 0 (subst Rising e slots-rising) (subst (λ (l : List ℕ). In y l) e (in-free y m z)) in omega (arith, l, k);
+        lower = λ y l m z. let k = Rising.first-lowest 0 (subst Rising e slots-rising) (subst (λ (l : List ℕ). In y l) e (in-free y m z)) in omega (arith, l, k);
       }
 
 -- One granule -----------------------------------------------------------------------------------------------------------------------

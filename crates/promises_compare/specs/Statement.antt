@@ -103,8 +103,7 @@ swapped x =
 
 -- every pair of images of which neither is refused
 abbrev pub EveryPair : Type 0
-EveryPair = (g : Geometry) (d : List ℕ) (g′ : Geometry) (d′ : List ℕ) → Both g d g′ d′
-    → Compares g d g′ d′ (many g d g′ d′) (compare g d g′ d′)
+EveryPair = (g : Geometry) (d : List ℕ) (g′ : Geometry) (d′ : List ℕ) → Both g d g′ d′ → Compares g d g′ d′ (many g d g′ d′) (compare g d g′ d′)
 
 abbrev pub EveryRefusal : Type 0
 EveryRefusal = (g : Geometry) (d : List ℕ) (g′ : Geometry) (d′ : List ℕ) → Refuses g d g′ d′ (compare g d g′ d′)

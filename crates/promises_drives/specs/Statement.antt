@@ -41,11 +41,9 @@ pub record OnOne (p : Pair) (n : ℕ) : Type 0 where
       → openFile p true n m len checking code ≡ openedOn n (Open.open′ (geometry p n) (image p n) m len checking code)
   pub creates : (m : List ℕ) (f : NewFile) (checking : Bool) → let r = Create.create (geometry p n) (image p n) m f checking in
       create p true n m f checking ≡ (createdOn n (r .0), leaving p n (r .1) 0, leaving p n (r .1) 1)
-  pub reads : (h : Handle) (b : List ℕ) → let r = Read.readRecord (geometry p n) (image p n) h b in
-      readRecord p (handleOn n h) b ≡ (answered n (r .0), r .1)
+  pub reads : (h : Handle) (b : List ℕ) → let r = Read.readRecord (geometry p n) (image p n) h b in readRecord p (handleOn n h) b ≡ (answered n (r .0), r .1)
   pub readsSector : (h : Handle) (k : ℕ) → readSector p (handleOn n h) k ≡ partOn n (Read.readSector (geometry p n) (image p n) h k)
-  pub writes : (m : Mode) (h : Handle) (b : List ℕ)
-      → ChangesOn p n (Write.writeRecord (geometry p n) (image p n) m h b) (writeRecord p m (handleOn n h) b)
+  pub writes : (m : Mode) (h : Handle) (b : List ℕ) → ChangesOn p n (Write.writeRecord (geometry p n) (image p n) m h b) (writeRecord p m (handleOn n h) b)
   pub allots : (h : Handle) (k : ℕ) → ChangesOn p n (Allot.allot (geometry p n) (image p n) h k) (allot p (handleOn n h) k)
   pub trims : (h : Handle) → ChangesOn p n (Trim.trim (geometry p n) (image p n) h) (trim p (handleOn n h))
   pub kills : (h : Handle) → ChangesOn p n (Kill.kill (geometry p n) (image p n) h) (kill p (handleOn n h))
@@ -62,8 +60,7 @@ Spares = (p : Pair) (n k : ℕ) (d : List ℕ) → n ≢ k → leaving p n d k �
 
 -- where neither disk is refused it is the call on the drive that the search names, whatever stands for the number
 pub record Without (p : Pair) : Type 0 where
-  pub looksUp : (k : ℕ) (m : List ℕ) → let j = searched p m in
-      lookUp p false k m ≡ lookedUpOn j (passedOver p m) (LookUp.lookUp (geometry p j) (image p j) m)
+  pub looksUp : (k : ℕ) (m : List ℕ) → let j = searched p m in lookUp p false k m ≡ lookedUpOn j (passedOver p m) (LookUp.lookUp (geometry p j) (image p j) m)
   pub opens : (k : ℕ) (m : List ℕ) (len : ℕ) (checking : Bool) (code : ℕ)
       → openFile p false k m len checking code ≡ openFile p true (searched p m) m len checking code
   pub creates : (k : ℕ) (m : List ℕ) (f : NewFile) (checking : Bool) → create p false k m f checking ≡ create p true (takes p m) m f checking

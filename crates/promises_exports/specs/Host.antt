@@ -192,12 +192,10 @@ abbrev pub HandsOver : Geometry → List ℕ → HostCall → LeftToHost → Typ
 HandsOver g d checks l = Unit {0}
 HandsOver g d (looksUp n) l = (getD (l .told) 2 0 ≡ lookUp g d n .slot) × (getD (l .told) 3 0 ≡ lookUp g d n .compared)
 HandsOver g d (opens n len checking code b) l = handleOf (l .handle) ≡ open′ g d n len checking code .handle
-HandsOver g d (creates n f checking b) l =
-    let c = create g d n f checking .0 in (handleOf (l .handle) ≡ c .handle) × (getD (l .told) 2 0 ≡ told (c .old))
+HandsOver g d (creates n f checking b) l = let c = create g d n f checking .0 in (handleOf (l .handle) ≡ c .handle) × (getD (l .told) 2 0 ≡ told (c .old))
 HandsOver g d (reads a b x) l =
     let r = readOf g d (handleOf b) (howMany a (handleOf b .len) x) x in (HandleFits (handleOf b) → handleOf (l .handle) ≡ r .0 .handle) × (l .buffer ≡ r .1)
-HandsOver g d (readsSector b k) l =
-    let p = readSector g d (handleOf b) k in (getD (l .told) 1 0 ≡ p .from) × (getD (l .told) 2 0 ≡ p .to) × (l .handle ≡ b)
+HandsOver g d (readsSector b k) l = let p = readSector g d (handleOf b) k in (getD (l .told) 1 0 ≡ p .from) × (getD (l .told) 2 0 ≡ p .to) × (l .handle ≡ b)
 HandsOver g d (writes a m b x) l =
     let r = writeOf g d (modeOf m) (handleOf b) (howMany a (handleOf b .len) x) x in
     (HandleFits (handleOf b) → handleOf (l .handle) ≡ r .0 .handle) × (l .buffer ≡ x)

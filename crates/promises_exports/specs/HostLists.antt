@@ -103,8 +103,7 @@ pub record HostAnswered : Type 0 where
   pub side : HostSide
 
 abbrev pub answer : Geometry → Name → List ℕ → HostSide → HostStep → HostAnswered
-answer g n d s c =
-    let cs = called n (s .handles) c in record { number = numberOf g d cs; disk = imageOf g d cs; side = leftWith g n d s c }
+answer g n d s c = let cs = called n (s .handles) c in record { number = numberOf g d cs; disk = imageOf g d cs; side = leftWith g n d s c }
 
 -- 2. The same list as `together` has it -----------------------------------------------------------------------------------------------------------
 

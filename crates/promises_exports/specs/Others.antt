@@ -52,8 +52,7 @@ module _ (g : Geometry) (d : List ℕ) where
 
   -- a table of either image has the same numbers
   abbrev pub ComparedWith : Geometry → List ℕ → ℕ → List ℕ → ℕ × ℕ × ℕ × ℕ × ℕ × ℕ × List ℕ → Type 0
-  ComparedWith g′ d′ i b x =
-      ExportFixed x (exportedCompare g d g′ d′ i b) (x .0) (rowsOf (diskCases g d ((12, Unit {0}) ∷ []))) (x .6 ∷ []) (b ∷ [])
+  ComparedWith g′ d′ i b x = ExportFixed x (exportedCompare g d g′ d′ i b) (x .0) (rowsOf (diskCases g d ((12, Unit {0}) ∷ []))) (x .6 ∷ []) (b ∷ [])
 
   abbrev pub RecordLoaded : List ℕ → List ℕ → ℕ × ℕ × ℕ × ℕ × ℕ × ℕ × List ℕ × List ℕ → Type 0
   RecordLoaded b buffer x =

@@ -173,8 +173,7 @@ module _ (g : Geometry) (d : List ℕ) where
     -- "Directory length comes before all slots", "without a slot"
     length′ : (LengthHolds → ⊥) → FaultIs (unplaced 21)
     -- "Report the lowest slot at fault", "and at that slot the first kind in this order"
-    slot : (s k : ℕ) → LengthHolds → T (isSlot g d s) → FirstOf k (kinds s) → ((t : ℕ) → T (isSlot g d t) → t < s → NoneOf (kinds t))
-        → FaultIs (placed k s)
+    slot : (s k : ℕ) → LengthHolds → T (isSlot g d s) → FirstOf k (kinds s) → ((t : ℕ) → T (isSlot g d t) → t < s → NoneOf (kinds t)) → FaultIs (placed k s)
     -- "a clear directory granule after them", "without a slot"
     granule : (n : ℕ) → LengthHolds → NoSlot → In n (directoryGranules g d) → (T (taken g d n) → ⊥) → FaultIs (unplaced 30)
     -- none: "Directory granules are set in the GAT" (01)

@@ -43,16 +43,6 @@ alike (x ∷ y ∷ xs) e i j = absurd (omega arith)
 first-two : {a b : ℕ} {xs : List ℕ} → Distinct (a ∷ b ∷ xs) → a ≢ b
 first-two {xs = xs} (Members.Distinct.fresh f r) q = f (Members.head-in xs q)
 
--- the first of a rising list is its lowest
-first-lowest : (z : ℕ) {q : ℕ} {xs : List ℕ} → Rising xs → In q xs → firstOr z xs ≤ q
-unfolding firstOr
-first-lowest z Rising.Rising.done i = Members.none-in i
-first-lowest z {q} (Rising.Rising.next {x = x} {xs = xs} f r) i = go (Members.in-cons i)
-  where
-    go : (q ≡ x) ⊎ In q xs → x ≤ q
-    go (inl e) = omega arith
-    go (inr j) = omega (arith, f q j)
-
 module _ (g : Geometry) (d : List ℕ) where
   -- One entry ---------------------------------------------------------------------------------------------------------------------
 
@@ -151,7 +141,7 @@ module _ (g : Geometry) (d : List ℕ) where
       record {
         file = k .0;
         meets = meets-says (fileOf g d s) s (k .1);
-        lowest = λ q h n. first-lowest s (Rising.keep-rising (λ p. has (walk g d p) s) files-rising)
+        lowest = λ q h n. Rising.first-lowest s (Rising.keep-rising (λ p. has (walk g d p) s) files-rising)
             (Members.in-keep (λ p. has (walk g d p) s) (Facts.in-files g d q h) (Members.in-has (says-meets q s h n)));
       }
 

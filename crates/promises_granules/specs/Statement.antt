@@ -75,8 +75,7 @@ pub record Old (g : Geometry) (d : List ℕ) : Type 0 where
   pub bytes : granuleBytes g ≡ 5 * 256
   -- "The 1FH byte is allowed and the directory fits the image": on such a disk the directory's granules are its sectors by fives. On any
   -- other the check tells 21, and no answer hangs on them.
-  pub length′ : lengthHolds g d
-      ≡ all (has (0 ∷ 5 ∷ 10 ∷ 15 ∷ 20 ∷ []) (aboveTen g d) ∷ leb (g .start + directorySectors g d) (g .blocks * g .units * 5) ∷ [])
+  pub length′ : lengthHolds g d ≡ all (has (0 ∷ 5 ∷ 10 ∷ 15 ∷ 20 ∷ []) (aboveTen g d) ∷ leb (g .start + directorySectors g d) (g .blocks * g .units * 5) ∷ [])
   pub directory : lengthHolds g d ≡ true → directoryGranules g d ≡ count (g .start / 5) (directorySectors g d / 5)
   -- "the size fits the granules owned"
   pub fits : (p : ℕ) → sizeHolds g d p

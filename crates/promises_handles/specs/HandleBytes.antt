@@ -45,8 +45,7 @@ stored-length b h = length-sets b 0 (bytesOf h)
 -- "a refused open or create leaves a handle of zeros", and what stands behind it as it stood
 pub stored-zeros : (b : List ℕ) → handleBytes ≤ length b → stored b noHandle ≡ replicate handleBytes 0 ++ drop handleBytes b
 unfolding stored
-stored-zeros b l =
-    ap (sets b 0) zeros ∙ sets-eq (replicate handleBytes 0) b 0 l
+stored-zeros b l = ap (sets b 0) zeros ∙ sets-eq (replicate handleBytes 0) b 0 l
 
 -- Any bytes are a handle ----------------------------------------------------------------------------------------------------------------
 

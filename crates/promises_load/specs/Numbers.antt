@@ -25,8 +25,7 @@ module _ (g : Geometry) (d : List ℕ) where
 
   -- 12 the handle's numbers or a buffer under 255 bytes; 6 a level over 5
   abbrev pub loadCases : Handle → ℕ → Table
-  loadCases h room =
-      handleCases g d h (InRange g h × (mostBytes ≤ room)) ((6, 5 < h .level) ∷ Told h unknownCode ∷ Told h fileEnds ∷ Told h wrongCount ∷ [])
+  loadCases h room = handleCases g d h (InRange g h × (mostBytes ≤ room)) ((6, 5 < h .level) ∷ Told h unknownCode ∷ Told h fileEnds ∷ Told h wrongCount ∷ [])
 
   ranged-iff : (h : Handle) (room : ℕ) → T (all (inRange g h ∷ leb mostBytes room ∷ [])) ↔ (InRange g h × (mostBytes ≤ room))
   unfolding all

@@ -26,9 +26,7 @@ endBy r = cond (eqb (r .kind) startCode) (starts (r .address)) (breaks (r .numbe
 -- the file asked from place i on, n times at the most, each time at the place that the last answer gave, until no data record is told
 unfoldable pub askedFrom : List ℕ → ℕ → ℕ → Pieces
 askedFrom bs zero i = ending (breaks fileEnds i)
-askedFrom bs (suc n) i =
-    let r = recordFrom bs i in
-    cond (eqb (r .kind) dataCode) (onto (recordOf bs r) (askedFrom bs n (r .next))) (ending (endBy r))
+askedFrom bs (suc n) i = let r = recordFrom bs i in cond (eqb (r .kind) dataCode) (onto (recordOf bs r) (askedFrom bs n (r .next))) (ending (endBy r))
 
 -- the reader asked n times at the most, by the handle and with the buffer that the last call left, until no data record is told
 unfoldable pub readFrom : Geometry → List ℕ → ℕ → Handle → List ℕ → Pieces
@@ -41,8 +39,7 @@ readFrom g d (suc n) h b =
 
 -- none of 1, 21 to 30, 12, 7 and 6 applies: what is told then is the file's own
 abbrev pub Admitted : Geometry → List ℕ → Handle → List ℕ → Type 0
-Admitted g d h b =
-    first (handleRefusals g d h (all (inRange g h ∷ leb mostBytes (length b) ∷ [])) (notForReading h ∷ [])) ≡ 0
+Admitted g d h b = first (handleRefusals g d h (all (inRange g h ∷ leb mostBytes (length b) ∷ [])) (notForReading h ∷ [])) ≡ 0
 
 -- Asked from place 0 on, the reader hands out the records of the plain file, cut, and then tells its end. So what it tells hangs on the plain file
 -- alone, wherever its granules lie.

@@ -40,15 +40,13 @@ pub record ReadInParts (g : Geometry) (d : List ℕ) (h : Handle) (ns b : List �
   pub handle′ : readOf g d h (sum ns) b .0 .handle ≡ readTo g d h ns
 
 abbrev pub EveryRead : Type 0
-EveryRead =
-    (g : Geometry) (d : List ℕ) (h : Handle) (ns b : List ℕ) → readOf g d h (sum ns) b .0 .refusal .number ≡ 0 → ReadInParts g d h ns b
+EveryRead = (g : Geometry) (d : List ℕ) (h : Handle) (ns b : List ℕ) → readOf g d h (sum ns) b .0 .refusal .number ≡ 0 → ReadInParts g d h ns b
 
 -- writes of these lengths, one after the other: of the bytes of a list from its start on, each by the handle and on the disk as the one
 -- before left them. Each is accepted; the disk at the end; the handle at the end.
 abbrev pub AllWritten : Geometry → List ℕ → Mode → Handle → List ℕ → List ℕ → Type 0
 AllWritten g d m h [] b = Unit {0}
-AllWritten g d m h (n ∷ ns) b =
-    let r = writeOf g d m h n b in (r .0 .refusal .number ≡ 0) × AllWritten g (r .1) m (r .0 .handle) ns (drop n b)
+AllWritten g d m h (n ∷ ns) b = let r = writeOf g d m h n b in (r .0 .refusal .number ≡ 0) × AllWritten g (r .1) m (r .0 .handle) ns (drop n b)
 
 abbrev pub writtenBy : Geometry → List ℕ → Mode → Handle → List ℕ → List ℕ → List ℕ
 writtenBy g d m h [] b = d
@@ -85,5 +83,4 @@ pub record LengthApart (g : Geometry) (d : List ℕ) (h : Handle) (len n : ℕ) 
   pub writes′ : (m : Mode) → writeOf g d m (withLength h len) n b ≡ ofLength len (writeOf g d m h n b)
 
 abbrev pub EveryLength : Type 0
-EveryLength =
-    (g : Geometry) (d : List ℕ) (h : Handle) (len n : ℕ) (b : List ℕ) → LengthInRange (h .len) → LengthInRange len → LengthApart g d h len n b
+EveryLength = (g : Geometry) (d : List ℕ) (h : Handle) (len n : ℕ) (b : List ℕ) → LengthInRange (h .len) → LengthInRange len → LengthApart g d h len n b

@@ -31,10 +31,9 @@ use Rattle.laws.specs.Places
 use Rattle.laws.specs.Change
 use Rattle.laws.specs.Others
 use Rattle.laws.specs.Rewrite
-use Rattle.laws.specs.Store.{store-length, store-other}
+use Rattle.laws.specs.Store.{store-length, store-other, store-append}
 use Rattle.laws.specs.Passed
 use Rattle.laws.specs.Words.{words}
-use Rattle.write.proofs.Parts.{store-append}
 use Rattle.promises.specs.Promises.{InRange}
 use Rattle.promises.specs.Refusing
 use Rattle.promises.specs.Passing

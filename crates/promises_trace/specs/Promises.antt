@@ -81,8 +81,7 @@ bits-of-pack t h = bits-bytesOf (length (packBits t) / 8) (packBits t) (whole-by
 
 pub later-not-read : (t : Trace) (later : List ℕ) → TraceFits t → readTrace (pack t ++ later) ≡ reads t
 unfolding readTrace
-later-not-read t later h =
-    ap readBits (bits-append (pack t) later ∙ ap (λ (x : List ℕ). x ++ bits later) (bits-of-pack t h)) ∙ complete t (bits later) h
+later-not-read t later h = ap readBits (bits-append (pack t) later ∙ ap (λ (x : List ℕ). x ++ bits later) (bits-of-pack t h)) ∙ complete t (bits later) h
 
 pub read-packed : (t : Trace) → TraceFits t → readTrace (pack t) ≡ reads t
 unfolding readTrace

@@ -70,8 +70,7 @@ pub record EntryAlike (u : Kinds) (f f′ : ℕ → ℕ) : Type 0 where
 
 -- a place in neither GAT nor HIT and in no slot's entry
 abbrev pub Outside : Geometry → List ℕ → ℕ → Type 0
-Outside g d i =
-    (i < 256 * g .start) ⊎ ((256 * (g .start + 2) ≤ i) × ((s : ℕ) → T (isSlot g d s) → (i < entryAt g s) ⊎ (entryAt g s + 32 ≤ i)))
+Outside g d i = (i < 256 * g .start) ⊎ ((256 * (g .start + 2) ≤ i) × ((s : ℕ) → T (isSlot g d s) → (i < entryAt g s) ⊎ (entryAt g s + 32 ≤ i)))
 
 -- Images of one length, alike but for GAT bytes past the last block, GAT bits past the last unit, HIT places of no slot and those further kinds.
 pub record ReadAlike (u : Kinds) (g : Geometry) (d d′ : List ℕ) : Type 0 where
@@ -90,15 +89,13 @@ pub data Unread (u : Kinds) (g : Geometry) (d : List ℕ) : ℕ → ℕ → Type
   -- a GAT byte past the last block
   pastBlocks : (b v : ℕ) → g .blocks ≤ b → b < 256 → Unread u g d (256 * g .start + b) v
   -- a GAT byte of a block, its bits below units per block as they were
-  pastUnits : (b v : ℕ) → b < g .blocks → ((i : ℕ) → i < g .units → digit v i ≡ digit (byte d (256 * g .start + b)) i)
-      → Unread u g d (256 * g .start + b) v
+  pastUnits : (b v : ℕ) → b < g .blocks → ((i : ℕ) → i < g .units → digit v i ≡ digit (byte d (256 * g .start + b)) i) → Unread u g d (256 * g .start + b) v
   -- a HIT place of no slot
   noSlot : (s v : ℕ) → s < 256 → s ≢ 0x1f → isSlot g d s ≡ false → Unread u g d (hitAt g s) v
   -- one of an extension's bytes 02 to 15
   ofExtension : (s k v : ℕ) → T (isSlot g d s) → u .extensions ≡ true → extension g d s ≡ true → 2 ≤ k → k < 0x16 → Unread u g d (entryAt g s + k) v
   -- the second byte of a pair that begins with FFH, or comes after one that does
-  behindBlock : (s k v : ℕ) → T (isSlot g d s) → u .behind ≡ true → k < 4 → stopped (field g d s) k ≡ true
-      → Unread u g d (entryAt g s + (0x17 + 2 * k)) v
+  behindBlock : (s k v : ℕ) → T (isSlot g d s) → u .behind ≡ true → k < 4 → stopped (field g d s) k ≡ true → Unread u g d (entryAt g s + (0x17 + 2 * k)) v
   -- the link behind a marker that is not FEH
   behindMarker : (s v : ℕ) → T (isSlot g d s) → u .behind ≡ true → marker g d s ≢ 0xfe → Unread u g d (entryAt g s + 0x1f) v
   -- any byte of a dead entry, bit 4 of its flags as it was
@@ -147,13 +144,11 @@ EveryDisk = (u : Kinds) (g : Geometry) (d d′ : List ℕ) → ReadAlike u g d d
 
 -- bring back (02 §11), which reads dead entries
 abbrev pub EveryBack : Type 0
-EveryBack =
-    (u : Kinds) (g : Geometry) (d d′ : List ℕ) → u .dead ≡ false → ReadAlike u g d d′ → (s : ℕ) → LeftAlike u g (bringBack g d s) (bringBack g d′ s)
+EveryBack = (u : Kinds) (g : Geometry) (d d′ : List ℕ) → u .dead ≡ false → ReadAlike u g d d′ → (s : ℕ) → LeftAlike u g (bringBack g d s) (bringBack g d′ s)
 
 -- compare (02 §1), either image
 abbrev pub EveryPair : Type 0
-EveryPair =
-    (u : Kinds) (g h : Geometry) (d d′ e e′ : List ℕ) → ReadAlike u g d d′ → ReadAlike u h e e′ → (i : ℕ) → compare g d h e i ≡ compare g d′ h e′ i
+EveryPair = (u : Kinds) (g h : Geometry) (d d′ e e′ : List ℕ) → ReadAlike u g d d′ → ReadAlike u h e e′ → (i : ℕ) → compare g d h e i ≡ compare g d′ h e′ i
 
 -- read program files (02 §12): the numbers 31 to 33 hang on the file's bytes
 abbrev pub EveryLoad : Type 0

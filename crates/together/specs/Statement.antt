@@ -122,10 +122,8 @@ leftWith g n d s (moves i at) = withMoved s i (movedTo (handleAt (s .handles) i)
 leftWith g n d s (reads a i buffer) =
     let r = readOf g d (handleAt (s .handles) i) (manyBy (s .handles) a i buffer) buffer in
     hearing (withMoved s i (r .0 .handle)) (kept (plain g d (fold n)) (r .1))
-leftWith g n d s (readsSector i k) =
-    let r = readSector g d (handleAt (s .handles) i) k in hearing s (kept (plain g d (fold n)) (slice (r .from) (r .to) d))
-leftWith g n d s (writes a m i bytes) =
-    withMoved s i (writeOf g d m (handleAt (s .handles) i) (manyBy (s .handles) a i bytes) bytes .0 .handle)
+leftWith g n d s (readsSector i k) = let r = readSector g d (handleAt (s .handles) i) k in hearing s (kept (plain g d (fold n)) (slice (r .from) (r .to) d))
+leftWith g n d s (writes a m i bytes) = withMoved s i (writeOf g d m (handleAt (s .handles) i) (manyBy (s .handles) a i bytes) bytes .0 .handle)
 leftWith g n d s (allots i k) = s
 leftWith g n d s (trims i) = s
 leftWith g n d s (kills i) = s
@@ -146,9 +144,7 @@ leavesAll g d [] = d
 leavesAll g d (c ∷ cs) = leavesAll g (leaves g d c) cs
 
 unfoldable pub answer : Geometry → Name → List ℕ → Side → Step → Answered
-answer g n d s c =
-    let asks = asked n (s .handles) c in
-    record { number = numberOf g d asks; disk = leavesAll g d asks; side = leftWith g n d s c }
+answer g n d s c = let asks = asked n (s .handles) c in record { number = numberOf g d asks; disk = leavesAll g d asks; side = leftWith g n d s c }
 
 -- 2. Two lists, interleaved ---------------------------------------------------------------------------------------------------
 

@@ -3,13 +3,13 @@ use mathlib.Core.Path.{_≡_, refl, sym, ap, _∙_}
 use mathlib.Core.List.{List, [], _∷_, _++_}
 use Prim.Native.Nat.{ℕ, suc, _+_, _-_, _*_, _/_, _≤_, _<_}
 use native.Mathlib.Omega.{arith}
-use native.Mathlib.Nat.{add-zero}
 use native.Mathlib.Numerals.{add-one}
 use lib.ListN.{length, take, drop, set, length-drop, replicate, length-replicate, replicate-append-replicate}
 use lib.Seq.{sets, take-add, length-take-le}
 use Rattle.meaning.specs.Chain.{place}
 use Rattle.meaning.specs.Write.{store}
 use Rattle.meaning.specs.declared.Geometry.{Geometry}
+use Rattle.laws.specs.Store.{store-append}
 use mathlib.Core.Logic.{⊎-elim, _⊎_, inl, inr}
 use Rattle.meaning.specs.Layout.{directorySectors, granuleBytes}
 use Rattle.lists.specs.Sizes
@@ -31,13 +31,6 @@ store-run f d i (b ∷ b′ ∷ bs) h =
     (λ t l. let u : i + 1 + t ≡ i + (1 + t) = omega arith in let v : f i + (1 + t) ≡ suc (f i) + t = omega arith in
     ap f u ∙ h (1 + t) (omega arith) ∙ v ∙ ap (λ (k : ℕ). k + t) (sym e))
     ∙ ap (λ (k : ℕ). sets (set d (f i) b) k (b′ ∷ bs)) e
-
-pub store-append : (f : ℕ → ℕ) (d : List ℕ) (i : ℕ) (xs ys : List ℕ) → store f d i (xs ++ ys) ≡ store f (store f d i xs) (i + length xs) ys
-unfolding store
-store-append f d i [] ys = ap (λ (k : ℕ). store f d k ys) (sym (add-zero i))
-store-append f d i (x ∷ xs) ys =
-    let e : i + 1 + length xs ≡ i + suc (length xs) = omega arith in
-    store-append f (set d (f i) x) (i + 1) xs ys ∙ ap (λ (k : ℕ). store f (store f (set d (f i) x) (i + 1) xs) k ys) e
 
 module _ (g : Geometry) (d : List ℕ) where
   -- a part in one granule, put into whatever the image is by then
