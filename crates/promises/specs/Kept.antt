@@ -6,14 +6,14 @@ use Prim.Native.Nat.{ℕ}
 use Rattle.meaning.specs.Refusals.{check}
 use Rattle.meaning.specs.Listing
 use Rattle.meaning.specs.Amount.{howMany}
-use Rattle.meaning.specs.Calls.{Call, number, leaves}
-use Rattle.promises_words.specs.Given.{AreBytes}
+use Rattle.meaning.specs.Calls.{Call, refusalIn, does, number, leaves}
 use Rattle.meaning.specs.declared.Geometry.{Geometry}
 use Rattle.lists.specs.Members
 use Rattle.laws.specs.Facts
 use Rattle.laws.specs.Fault
-use Rattle.promises.specs.Said.{answerOf, refusalIn, OnlyLooks, says}
-use Rattle.promises.specs.Promises.{AllBring, Stays, Serves, Refuses, EveryCall, Along, EveryState, GatAlone, EveryWrite, OldTwo, EveryName}
+use Rattle.promises.specs.Said.{says}
+use Rattle.promises.specs.Promises.{AllBring, Stays, Serves, Refuses, Lists, Counted, EveryCall, Along, EveryState, GatAlone}
+use Rattle.promises.specs.Promises.{EveryWrite, OldTwo, EveryName}
 use Rattle.promises.specs.Refusing
 use Rattle.promises.specs.Passing
 use Rattle.promises.specs.Staying
@@ -30,65 +30,34 @@ module _ (g : Geometry) (d : List ℕ) where
   unfolding check
   checked e = Passing.disk-passed g d [] e .0
 
-  check-serves : check g d .number ≡ 0 → Serves g d Call.checks (says g d Call.checks)
-  check-serves e = let w = checked e in (Members.T-true (w .fits), Facts.back g d (w .sound))
-
-  list-serves : (i : ℕ) → Listing.list g d i .refusal .number ≡ 0 → Serves g d (Call.lists i) (says g d (Call.lists i))
+  list-serves : (i : ℕ) → Listing.list g d i .refusal .number ≡ 0 → Lists g d i (Listing.list g d i)
   list-serves i e = Telling.list-serves g d i e (checked (sym (Refusing.list-number g d i) ∙ e) .sound)
 
-  counts-serves : Listing.counts g d .refusal .number ≡ 0 → Serves g d Call.counts (says g d Call.counts)
+  counts-serves : Listing.counts g d .refusal .number ≡ 0 → Counted g d (Listing.counts g d)
   counts-serves e = Telling.counts-serves g d e (checked (counted e) .sound)
     where
       counted : Listing.counts g d .refusal .number ≡ 0 → check g d .number ≡ 0
       counted e = unfold Listing.counts in e
 
-  pub serves : (c : Call) → AreBytes d → number g d c ≡ 0 → Serves g d c (says g d c)
+  pub serves : (c : Call) → number g d c ≡ 0 → Serves g d c (says g d c)
   unfolding number leaves
-  serves Call.checks b e = check-serves e
-  serves (Call.looksUp n) b e = Finding.look-serves g d n e
-  serves (Call.opens n len checking code) b e = Finding.open-serves g d n len checking code e
-  serves (Call.creates n f checking) b e = Finding.create-serves g d n f checking e
-  serves (Call.reads a h x) b e = Sector.read-serves g d h (howMany a (h .len) x) x e
-  serves (Call.readsSector h k) b e = Sector.sector-serves g d b h k e
-  serves (Call.writes a m h x) b e = Changing.write-serves g d m h (howMany a (h .len) x) x e
-  serves (Call.allots h k) b e = Changing.allot-serves g d h k e
-  serves (Call.trims h) b e = Changing.trim-serves g d h e
-  serves (Call.kills h) b e = Changing.kill-serves g d h e
-  serves (Call.lists i) b e = list-serves i e
-  serves Call.counts b e = counts-serves e
-  serves Call.measures b e = Measuring.measure-serves g d e
+  serves Call.checks e = let w = checked e in (refl, Members.T-true (w .fits), Facts.back g d (w .sound))
+  serves (Call.looksUp n) e = (refl, Finding.look-serves g d n e)
+  serves (Call.opens n len checking code) e = (refl, Finding.open-serves g d n len checking code e)
+  serves (Call.creates n f checking) e = Finding.create-serves g d n f checking e
+  serves (Call.reads a h x) e = (refl, Sector.read-serves g d h (howMany a (h .len) x) x e)
+  serves (Call.readsSector h k) e = (refl, λ b. Sector.sector-serves g d b h k e)
+  serves (Call.writes a m h x) e = Changing.write-serves g d m h (howMany a (h .len) x) x e
+  serves (Call.allots h k) e = Changing.allot-serves g d h k e
+  serves (Call.trims h) e = Changing.trim-serves g d h e
+  serves (Call.kills h) e = Changing.kill-serves g d h e
+  serves (Call.lists i) e = (refl, list-serves i e)
+  serves Call.counts e = (refl, counts-serves e)
+  serves Call.measures e = (refl, Measuring.measure-serves g d e)
 
-  pub told : (c : Call) → refusalIn c (answerOf g d c) .number ≡ number g d c
+  pub told : (c : Call) → refusalIn c (does g d c .0) .number ≡ number g d c
   unfolding number
-  told Call.checks = refl
-  told (Call.looksUp n) = refl
-  told (Call.opens n len checking code) = refl
-  told (Call.creates n f checking) = refl
-  told (Call.reads a h x) = refl
-  told (Call.readsSector h k) = refl
-  told (Call.writes a m h x) = refl
-  told (Call.allots h k) = refl
-  told (Call.trims h) = refl
-  told (Call.kills h) = refl
-  told (Call.lists i) = refl
-  told Call.counts = refl
-  told Call.measures = refl
-
-  pub looks : (c : Call) → OnlyLooks c → leaves g d c ≡ d
-  unfolding leaves
-  looks Call.checks o = refl
-  looks (Call.looksUp n) o = refl
-  looks (Call.opens n len checking code) o = refl
-  looks (Call.creates n f checking) o = absurd o
-  looks (Call.reads a h x) o = refl
-  looks (Call.readsSector h k) o = refl
-  looks (Call.writes a m h x) o = absurd o
-  looks (Call.allots h k) o = absurd o
-  looks (Call.trims h) o = absurd o
-  looks (Call.kills h) o = absurd o
-  looks (Call.lists i) o = refl
-  looks Call.counts o = refl
-  looks Call.measures o = refl
+  told c = refl
 
   pub refuses : (c : Call) → number g d c ≢ 0 → Refuses g d c (says g d c)
   unfolding number
@@ -110,7 +79,6 @@ module _ (g : Geometry) (d : List ℕ) where
 pub every-call : EveryCall
 every-call g d c = record {
   told = told g d c;
-  looks = looks g d c;
   stays = λ k b. Staying.stays g d k c b;
   serves = serves g d c;
   refuses = λ k. (Passing.as-stood g d c k, refuses g d c k);

@@ -36,7 +36,7 @@ use Rattle.meaning.specs.Allot.{granulesTo}
 use Rattle.meaning.specs.Listing
 use Rattle.meaning.specs.Listing.{listed, noFile}
 use Rattle.meaning.specs.FreeSpace.{freeSpace}
-use Rattle.meaning.specs.Calls.{Call, number, leaves}
+use Rattle.meaning.specs.Calls.{Call, refusalIn, number, leaves}
 use Rattle.meaning.specs.Calls.Call.{checks, looksUp, opens, creates, reads, readsSector, writes, allots, trims, kills, lists, counts, measures}
 use Rattle.meaning.specs.Plain.{File, Found, found, nothing, fileAt, plain, with′, isSystem, bornAs, writtenTo, allottedTo, trimmed}
 use Rattle.promises_words.specs.Untouched.{hush, beyond, Aside}
@@ -52,7 +52,7 @@ use Rattle.meaning.specs.declared.Part.{Part}
 use Rattle.meaning.specs.declared.Listed.{Listed}
 use Rattle.meaning.specs.declared.Counts.{Counts}
 use Rattle.meaning.specs.declared.Space.{Space}
-use Rattle.promises.specs.Said.{Said, refusalIn, OnlyLooks, says}
+use Rattle.promises.specs.Said.{Said, says}
 
 -- Calls -----------------------------------------------------------------------------------------------------------------------------
 
@@ -218,14 +218,8 @@ ith g d i = getD (listed g d) i 0
 
 -- Listing: number i tells the i-th file by rising slot, name, size and granules owned, and "no more" from FILES on
 pub record Lists (g : Geometry) (d : List ℕ) (i : ℕ) (r : Listed) : Type 0 where
-  pub tells : i < length (listed g d) → r
-      ≡ record {
-        refusal = unplaced 0;
-        more = true;
-        name = nameOf g d (ith g d i);
-        size = length (fileAt g d (ith g d i) .bytes);
-        granules = fileAt g d (ith g d i) .granules;
-      }
+  pub tells : i < length (listed g d) → let s = ith g d i in let f = fileAt g d s in
+      r ≡ record { refusal = unplaced 0; more = true; name = nameOf g d s; size = length (f .bytes); granules = f .granules }
   pub file : i < length (listed g d) → plain g d (nameOf g d (ith g d i)) ≡ found (fileAt g d (ith g d i))
   pub shown : i < length (listed g d) → T (not (isSystem (fileAt g d (ith g d i))))
   pub rising : (j : ℕ) → j < i → i < length (listed g d) → ith g d j < ith g d i
@@ -258,21 +252,21 @@ pub record Measured (g : Geometry) (d : List ℕ) (r : Space) : Type 0 where
 abbrev pub Writes : Geometry → List ℕ → Mode → Handle → ℕ → List ℕ → Handle → List ℕ → Type 0
 Writes g d m h n b h′ d′ = Changes g d d′ h h′ (λ f. found (writtenTo g m (h .at) (take n b) f)) (movedTo h (h .at + n))
 
--- What each accepted call answers and does
+-- What each accepted call answers and does. Those that only look leave the image as it is.
 abbrev pub Serves : Geometry → List ℕ → (c : Call) → Said c → Type 0
-Serves g d checks s = (fitsGeometry g d ≡ true) × (consistent g d ≡ true)
-Serves g d (looksUp n) s = LooksUp g d n (s .answer)
-Serves g d (opens n len checking code) s = Opened g d (fold n) len checking code (s .answer .handle)
+Serves g d checks s = (s .image ≡ d) × (fitsGeometry g d ≡ true) × (consistent g d ≡ true)
+Serves g d (looksUp n) s = (s .image ≡ d) × LooksUp g d n (s .answer)
+Serves g d (opens n len checking code) s = (s .image ≡ d) × Opened g d (fold n) len checking code (s .answer .handle)
 Serves g d (creates n f checking) s = Creates g d n f checking (s .answer) (s .image)
-Serves g d (reads a h b) s = Reads g d h (howMany a (h .len) b) b (s .answer .0 .handle) (s .answer .1)
-Serves g d (readsSector h k) s = ReadsSector g d h k (s .answer)
+Serves g d (reads a h b) s = (s .image ≡ d) × Reads g d h (howMany a (h .len) b) b (s .answer .0 .handle) (s .answer .1)
+Serves g d (readsSector h k) s = (s .image ≡ d) × (AreBytes d → ReadsSector g d h k (s .answer))
 Serves g d (writes a m h b) s = Writes g d m h (howMany a (h .len) b) b (s .answer .handle) (s .image)
 Serves g d (allots h k) s = Changes g d (s .image) h (s .answer .handle) (λ f. found (allottedTo g k f)) h
 Serves g d (trims h) s = Changes g d (s .image) h (s .answer .handle) (λ f. found (trimmed g f)) h
 Serves g d (kills h) s = Changes g d (s .image) h (s .answer .handle) (λ f. nothing) h
-Serves g d (lists i) s = Lists g d i (s .answer)
-Serves g d counts s = Counted g d (s .answer)
-Serves g d measures s = Measured g d (s .answer)
+Serves g d (lists i) s = (s .image ≡ d) × Lists g d i (s .answer)
+Serves g d counts s = (s .image ≡ d) × Counted g d (s .answer)
+Serves g d measures s = (s .image ≡ d) × Measured g d (s .answer)
 
 -- 4. What a refused call leaves: nothing is written ---------------------------------------------------------------------------------------
 
@@ -411,9 +405,8 @@ OldTwo = (g : Geometry) (d : List ℕ) → (fault g d ≡ unplaced 0) ↔ (consi
 -- what must hold of all that is said of a call, and left
 pub record Promised (g : Geometry) (d : List ℕ) (c : Call) (s : Said c) : Type 0 where
   pub told : refusalIn c (s .answer) .number ≡ s .number′
-  pub looks : OnlyLooks c → s .image ≡ d
   pub stays : Good g d → Brings c → Stays g d (s .image)
-  pub serves : AreBytes d → s .number′ ≡ 0 → Serves g d c s
+  pub serves : s .number′ ≡ 0 → Serves g d c s
   pub refuses : s .number′ ≢ 0 → (s .image ≡ d) × Refuses g d c s
   pub numbers : Exactly (s .number′) (table g d c)
 

@@ -1,6 +1,6 @@
 -- One granule more, and k granules more, in the words of `Statement`.
 use mathlib.Core.Path.{_≡_, refl, ap, sym, _∙_, subst}
-use mathlib.Core.Logic.{_≢_, _⊎_, inl, inr}
+use mathlib.Core.Logic.{_≢_}
 use mathlib.Core.Bool.{Bool, true, false, not}
 use mathlib.Core.List.{List, [], _∷_, _++_}
 use Prim.Native.Nat.{ℕ, zero, suc, _+_, _-_, _*_, _/_, _%_, _≤_, _<_}
@@ -110,7 +110,8 @@ module _ (g : Geometry) (d : List ℕ) where
       record {
         may = free-permitted x i;
         unused = Create.slots-free g d x i .1;
-        lower = λ y l m z. let k = Rising.first-lowest 0 (subst Rising e slots-rising) (subst (λ (l : List ℕ). In y l) e (in-free y m z)) in omega (arith, l, k);
+        lower = λ y l m z. let k = Rising.first-lowest 0 (subst Rising e slots-rising) (subst (λ (l : List ℕ). In y l) e (in-free y m z)) in
+            omega (arith, l, k);
       }
 
 -- One granule -----------------------------------------------------------------------------------------------------------------------

@@ -90,16 +90,8 @@ turned k = cond (eqb k 1) 2 (cond (eqb k 2) 1 k)
 
 unfoldable pub swapped : Difference → Difference
 swapped x =
-    record {
-      refusal = naming (turned (x .refusal .image)) (x .refusal);
-      kind = turned (x .kind);
-      name = x .name;
-      at = x .at;
-      contents = x .contents;
-      size = x .size;
-      date = x .date;
-      other = x .other;
-    }
+    let r = naming (turned (x .refusal .image)) (x .refusal) in let k = turned (x .kind) in
+    record { refusal = r; kind = k; name = x .name; at = x .at; contents = x .contents; size = x .size; date = x .date; other = x .other }
 
 -- every pair of images of which neither is refused
 abbrev pub EveryPair : Type 0

@@ -23,10 +23,10 @@ byteThere d = getD d (e82 + 7) 0
 told : Promised six base checks (record { number′ = 0; answer = unplaced 1; image = base }) → ⊥
 told p = differ 1 0 refl (p .told)
 
--- looks: a check that writes
-looks : Promised six base checks (record { number′ = 0; answer = unplaced 0; image = other }) → ⊥
+-- serves: a check that writes
+check-writes : Promised six base checks (record { number′ = 0; answer = unplaced 0; image = other }) → ⊥
 unfolding byteThere
-looks p = differ 0x99 0 refl (ap byteThere (p .looks tt))
+check-writes p = differ 0x99 0 refl (ap byteThere (p .serves refl .0))
 
 -- refuses: a kill that is refused, and writes; that moves the handle
 refused-writes : Promised six base (kills (hold 0 256 2))

@@ -220,7 +220,7 @@ pub record HostPromise (g : Geometry) (d : List ℕ) (c : HostCall) (l : LeftToH
   -- under any other than 0 every lent byte is as it stood
   pub refuses : l .number ≢ 0 → AsStoodForHost d c l
   -- accepted, it is the call of demand 2 with the handle that the bytes hold: that call is accepted, does what is promised of it, and leaves this image
-  pub serves : AreBytes d → l .number ≡ 0 → (number g d (callOf c) ≡ 0) × Serves g d (callOf c) (says g d (callOf c)) × (l .image ≡ leaves g d (callOf c))
+  pub serves : l .number ≡ 0 → (number g d (callOf c) ≡ 0) × Serves g d (callOf c) (says g d (callOf c)) × (l .image ≡ leaves g d (callOf c))
   pub hands : l .number ≡ 0 → HandsOver g d c l
   -- accepted or refused, the disk stays good
   pub stays : Good g d → Brings (callOf c) → Stays g d (l .image)

@@ -271,7 +271,7 @@ module _ (g : Geometry) (d : List ℕ) where
           handle = stood-handle c e (u z);
           buffer = stood-buffer c e (u z);
         };
-        serves = λ a z. (sym n ∙ z, p .serves a (sym n ∙ z), image-is c e);
+        serves = λ z. (sym n ∙ z, p .serves (sym n ∙ z), image-is c e);
         hands = λ z. hands c e (sym n ∙ z);
         stays = λ o b. subst (Stays g d) (sym (image-is c e)) (p .stays o b);
       }
@@ -284,7 +284,7 @@ module _ (g : Geometry) (d : List ℕ) where
         numbered = rw e (rw n (first-in (diskRefusals g d ((12, true) ∷ []))));
         exactly = rw e (rw n turned-exactly);
         refuses = λ z. record { image = turned-image c e; handle = turned-handle c e; buffer = turned-buffer c e };
-        serves = λ a z. absurd (never-accepted (sym n ∙ z));
+        serves = λ z. absurd (never-accepted (sym n ∙ z));
         hands = λ z. absurd (never-accepted (sym n ∙ z));
         stays = λ o b. subst (Stays g d) (sym (turned-image c e)) (stays-same g d o);
       }

@@ -45,6 +45,6 @@ sector-lent g d h k =
     let c = every-call g d (Call.readsSector h k) in
     record {
       is = refl;
-      serves = λ a z. let s = c .serves a z in record { file = s .file; called = s .called; part = slice-is (p .from) (p .to) d ∙ s .part };
+      serves = λ a z. let s = c .serves z .1 a in record { file = s .file; called = s .called; part = slice-is (p .from) (p .to) d ∙ s .part };
       refuses = λ z. let q = c .refuses z .1 in λ i. take (q .1 i - q .0 i) (drop (q .0 i) d);
     }

@@ -23,7 +23,7 @@ use Rattle.meaning.specs.Kill.{kill, killRefusals}
 use Rattle.meaning.specs.Listing
 use Rattle.meaning.specs.FreeSpace.{freeSpace, spaceRefusals}
 use Rattle.meaning.specs.BringBack.{bringBack, bringBackRefusals}
-use Rattle.meaning.specs.Calls.{Call, number}
+use Rattle.meaning.specs.Calls.{Call, number, refusalIn}
 use Rattle.meaning.specs.declared.Geometry.{Geometry}
 use Rattle.meaning.specs.declared.Refusal.{Refusal}
 use Rattle.lists.specs.Members
@@ -33,7 +33,7 @@ use Rattle.lists.specs.First.{numbersOf}
 use Rattle.laws.specs.Fault
 use Rattle.laws.specs.Passed
 use Rattle.laws.specs.Carried.{carried-own, carried-first}
-use Rattle.promises.specs.Said.{refusalIn, says}
+use Rattle.promises.specs.Said.{says}
 use Rattle.promises.specs.Refusing.{ownRows, list-number}
 
 module _ (g : Geometry) (d : List ℕ) where

@@ -19,13 +19,13 @@ use Rattle.meaning.specs.Refusal.{unplaced, placed}
 use Rattle.meaning.specs.Refusals.{faultNumbers, check}
 use Rattle.meaning.specs.Fault.{fault}
 use Rattle.meaning.specs.BringBack.{bringBack}
-use Rattle.meaning.specs.Calls.{Call, number}
+use Rattle.meaning.specs.Calls.{Call, number, refusalIn}
 use Rattle.meaning.specs.declared.Geometry.{Geometry}
 use Rattle.meaning.specs.declared.Refusal.{Refusal}
 use Rattle.laws.specs.Facts.{IsFile}
 use Rattle.laws.specs.Clauses.{IsUsed}
 use Rattle.laws.specs.Entry.{Follows}
-use Rattle.promises.specs.Said.{refusalIn, says}
+use Rattle.promises.specs.Said.{says}
 use Rattle.promises.specs.Promises.{Table}
 
 module _ (g : Geometry) (d : List ℕ) where

@@ -7,7 +7,7 @@ use Prim.Native.Nat.{ℕ, zero, suc, _≤_}
 use native.Mathlib.Omega.{arith}
 use lib.ListN.{length}
 use lib.Dec.{T, eqb, eqb→eq, not-T}
-use Rattle.meaning.specs.Lists.{every, keep, has, firstOr}
+use Rattle.meaning.specs.Lists.{every, keep, has}
 use Rattle.meaning.specs.Layout.{isSlot, slots}
 use Rattle.meaning.specs.Entries.{inUse, inUsePrimary, extension, link}
 use Rattle.meaning.specs.Chain.{files}

@@ -28,11 +28,12 @@ use Rattle.promises.specs.Promises
 use Rattle.promises.specs.Sector
 use Rattle.promises.specs.Staying
 use Rattle.together.specs.Statement.{Name, Step, looksUp, opens, creates, moves, reads, readsSector, writes, allots, trims, kills}
-use Rattle.together.specs.Statement.{Brings, AllBring, asked, leavesAll, known, answer, handleAt, manyBy, Grip, grip, Turn, one, two, Interleaving}
+use Rattle.together.specs.Statement.{Brings, AllBring, known, answer, handleAt, manyBy, Grip, grip, Turn, one, two, Interleaving}
 use Rattle.together.specs.Statement.{none, left, right, World, start, next, Accepted}
 use Rattle.together.specs.State
 use Rattle.together.specs.State.{FileState, stands, stateOf, gripAt, changed, born, effect, Held}
 use Rattle.together.specs.Effects
+use Rattle.together.specs.Heard.{call-bytes}
 use Rattle.together.specs.Interleavings
 use Rattle.together.specs.Interleavings.{Fine, stateIn}
 use Rattle.promises_stale.specs.Statement.{handedBack, puts, Own, NoneStale, NothingStale}
@@ -203,35 +204,12 @@ module _ (g : Geometry) (n : Name) (d : List ℕ) (hs : List Handle) (held : Hel
 
 -- Turn by turn ----------------------------------------------------------------------------------------------------------------------
 
--- the call of a step brings what the step brings
-all-bring : (n : Name) (hs : List Handle) (c : Step) → Brings c → Promises.AllBring (asked n hs c)
-all-bring n hs looksUp b = (tt, tt)
-all-bring n hs (opens len checking code) b = (tt, tt)
-all-bring n hs (creates f checking) b = (b, tt)
-all-bring n hs (moves i at) b = tt
-all-bring n hs (reads a i buffer) b = (tt, tt)
-all-bring n hs (readsSector i k) b = (tt, tt)
-all-bring n hs (writes a m i bytes) b = (b, tt)
-all-bring n hs (allots i k) b = (tt, tt)
-all-bring n hs (trims i) b = (tt, tt)
-all-bring n hs (kills i) b = (tt, tt)
-
-bytes-after : (g : Geometry) (d : List ℕ) (cs : List Call) → Promises.Good g d → Promises.AllBring cs → AreBytes (leavesAll g d cs)
-bytes-after g d [] k b = k .bytes
-bytes-after g d (c ∷ cs) k b = bytes-after g (leaves g d c) cs (Staying.stays g d k c (b .0) .good) (b .1)
-
 module _ (g : Geometry) (a b : Name) where
-  good-of : (w : World) → Fine g a b w → AreBytes (w .disk) → Promises.Good g (w .disk)
-  unfolding State.Good
-  good-of w k u = record { fits = k .good .0; sound = k .good .1; bytes = u }
-
   first-bytes : (w : World) (c : Step) → Fine g a b w → AreBytes (w .disk) → Brings c → AreBytes (next g a b w (one c) .disk)
-  unfolding answer
-  first-bytes w c k u q = bytes-after g (w .disk) (asked a (w .first .handles) c) (good-of w k u) (all-bring a (w .first .handles) c q)
+  first-bytes w c k u q = call-bytes g a (w .disk) (w .first) c (k .good) u q
 
   second-bytes : (w : World) (c : Step) → Fine g a b w → AreBytes (w .disk) → Brings c → AreBytes (next g a b w (two c) .disk)
-  unfolding answer
-  second-bytes w c k u q = bytes-after g (w .disk) (asked b (w .second .handles) c) (good-of w k u) (all-bring b (w .second .handles) c q)
+  second-bytes w c k u q = call-bytes g b (w .disk) (w .second) c (k .good) u q
 
   back-own : (w : World) (ws : List ℕ) → Fine g a b w → AreBytes (w .disk) → Mine ws (stands g (w .disk) (fold a)) → (c : Step)
       → T (known (w .first .handles) c) → answer g a (w .disk) (w .first) c .number ≡ 0 → Own ws (handedBack g (w .disk) (w .first .handles) c)

@@ -59,7 +59,7 @@ differ e = let z : _≡_ {A = ℕ} 0x50 0x4c = ap (λ (l : List ℕ). getD l 0 0
 
 pub none-stale : NoneStale tiny puls leer [] (start used) (before ++ (one read ∷ []))
 none-stale = nothing-stale tiny puls leer differ used good no-file mine [] (before ++ (one read ∷ [])) (left (left (left (left (left none)))))
-    ((omega arith, omega arith), (tt, (refl, (tt, (tt, tt))))) tt accepted
+    (λ n hs. ((omega arith, omega arith), tt), (λ n hs. tt, (λ n hs. (refl, tt), (λ n hs. tt, (λ n hs. (tt, tt), tt))))) tt accepted
 
 -- the world in which it reads
 abbrev w : World

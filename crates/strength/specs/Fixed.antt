@@ -17,7 +17,7 @@ use Rattle.meaning.specs.Names.{fold}
 use Rattle.meaning.specs.Amount.{howMany}
 use Rattle.meaning.specs.Handles.{movedTo, noHandle}
 use Rattle.meaning.specs.Listing.{listed, noFile}
-use Rattle.meaning.specs.Calls.{Call}
+use Rattle.meaning.specs.Calls.{Call, AnswerTo}
 use Rattle.meaning.specs.Calls.Call.{checks, looksUp, opens, creates, reads, readsSector, writes, allots, trims, kills, lists, counts, measures}
 use Rattle.meaning.specs.Plain.{File, Found, found, nothing, plain, with′, fileAt}
 use Rattle.meaning.specs.declared.Geometry.{Geometry}
@@ -29,7 +29,7 @@ use Rattle.promises_words.specs.Untouched.{hush}
 use Rattle.promises_words.specs.Given.{AreBytes}
 use Rattle.differences.specs.Order.{never}
 use Rattle.together.specs.Statement.{grip}
-use Rattle.promises.specs.Said.{Said, AnswerTo, OnlyLooks}
+use Rattle.promises.specs.Said.{Said}
 use Rattle.promises.specs.Promises
 use Rattle.promises.specs.Promises.{Promised, Serves, Refuses, Becomes, Changes, Opened, Creates, Full, Table, Rows, Stretch}
 
@@ -166,36 +166,38 @@ module _ (g : Geometry) (d : List ℕ) where
   as-stood : (d′ d″ : List ℕ) → d′ ≡ d → d″ ≡ d → SamePlain g d′ d″
   as-stood d′ d″ p q m = ap (λ (e : List ℕ). hush (plain g e m)) (p ∙ sym q)
 
-  accepted : (c : Call) (s s′ : Said c) → (OnlyLooks c → s .image ≡ d) → (OnlyLooks c → s′ .image ≡ d) → Serves g d c s → Serves g d c s′
+  accepted : AreBytes d → (c : Call) (s s′ : Said c) → Serves g d c s → Serves g d c s′
       → SameAnswer d c (s .answer) (s′ .answer) × SamePlain g (s .image) (s′ .image)
   unfolding firstOr
-  accepted checks s s′ o o′ x y = (tt, as-stood (s .image) (s′ .image) (o tt) (o′ tt))
-  accepted (looksUp n) s s′ o o′ x y = (ap (firstOr 0) (sym (x .here) ∙ y .here), as-stood (s .image) (s′ .image) (o tt) (o′ tt))
-  accepted (opens n len checking code) s s′ o o′ x y =
-      (same-opened g d (fold n) len checking code (s .answer .handle) (s′ .answer .handle) x y, as-stood (s .image) (s′ .image) (o tt) (o′ tt))
-  accepted (creates n f checking) s s′ o o′ x y = same-created g d n f checking (s .answer) (s′ .answer) (s .image) (s′ .image) x y
-  accepted (reads a h b) s s′ o o′ x y =
-      let f = one-file (x .called) (y .called) in (
+  accepted u checks s s′ x y = (tt, as-stood (s .image) (s′ .image) (x .0) (y .0))
+  accepted u (looksUp n) s s′ x y = (ap (firstOr 0) (sym (x .1 .here) ∙ y .1 .here), as-stood (s .image) (s′ .image) (x .0) (y .0))
+  accepted u (opens n len checking code) s s′ x y =
+      (same-opened g d (fold n) len checking code (s .answer .handle) (s′ .answer .handle) (x .1) (y .1), as-stood (s .image) (s′ .image) (x .0) (y .0))
+  accepted u (creates n f checking) s s′ x y = same-created g d n f checking (s .answer) (s′ .answer) (s .image) (s′ .image) x y
+  accepted u (reads a h b) s s′ x y =
+      let f = one-file (x .1 .called) (y .1 .called) in (
         (
-          x .handle′ ∙ sym (y .handle′),
-          x .buffer ∙ ap (λ (z : File). take (howMany a (h .len) b) (drop (h .at) (z .bytes)) ++ drop (howMany a (h .len) b) b) f ∙ sym (y .buffer),
+          x .1 .handle′ ∙ sym (y .1 .handle′),
+          x .1 .buffer ∙ ap (λ (z : File). take (howMany a (h .len) b) (drop (h .at) (z .bytes)) ++ drop (howMany a (h .len) b) b) f ∙ sym (y .1 .buffer),
         ),
-        as-stood (s .image) (s′ .image) (o tt) (o′ tt),
+        as-stood (s .image) (s′ .image) (x .0) (y .0),
       )
-  accepted (readsSector h k) s s′ o o′ x y =
-      let f = one-file (x .called) (y .called) in
-      (x .part ∙ ap (λ (z : File). take 256 (drop (256 * k) (z .bytes))) f ∙ sym (y .part), as-stood (s .image) (s′ .image) (o tt) (o′ tt))
-  accepted (writes a m h b) s s′ o o′ x y = same-changes g d (s .image) (s′ .image) h (s .answer .handle) (s′ .answer .handle) _ _ x y
-  accepted (allots h k) s s′ o o′ x y = same-changes g d (s .image) (s′ .image) h (s .answer .handle) (s′ .answer .handle) _ _ x y
-  accepted (trims h) s s′ o o′ x y = same-changes g d (s .image) (s′ .image) h (s .answer .handle) (s′ .answer .handle) _ _ x y
-  accepted (kills h) s s′ o o′ x y = same-changes g d (s .image) (s′ .image) h (s .answer .handle) (s′ .answer .handle) _ _ x y
-  accepted (lists i) s s′ o o′ x y =
-      (same-listed (s .answer) (s′ .answer) (told-listed g d i (s .answer) (s′ .answer) x y), as-stood (s .image) (s′ .image) (o tt) (o′ tt))
-  accepted counts s s′ o o′ x y = ((x .files′ ∙ sym (y .files′), x .free ∙ sym (y .free)), as-stood (s .image) (s′ .image) (o tt) (o′ tt))
-  accepted measures s s′ o o′ x y =
-      let a = y .none-longer (x .first) (s .answer .longest) (x .stretch) in let b = x .none-longer (y .first) (s′ .answer .longest) (y .stretch) in
+  accepted u (readsSector h k) s s′ x y =
+      let v = x .1 u in let w = y .1 u in let f = one-file (v .called) (w .called) in
+      (v .part ∙ ap (λ (z : File). take 256 (drop (256 * k) (z .bytes))) f ∙ sym (w .part), as-stood (s .image) (s′ .image) (x .0) (y .0))
+  accepted u (writes a m h b) s s′ x y = same-changes g d (s .image) (s′ .image) h (s .answer .handle) (s′ .answer .handle) _ _ x y
+  accepted u (allots h k) s s′ x y = same-changes g d (s .image) (s′ .image) h (s .answer .handle) (s′ .answer .handle) _ _ x y
+  accepted u (trims h) s s′ x y = same-changes g d (s .image) (s′ .image) h (s .answer .handle) (s′ .answer .handle) _ _ x y
+  accepted u (kills h) s s′ x y = same-changes g d (s .image) (s′ .image) h (s .answer .handle) (s′ .answer .handle) _ _ x y
+  accepted u (lists i) s s′ x y =
+      (same-listed (s .answer) (s′ .answer) (told-listed g d i (s .answer) (s′ .answer) (x .1) (y .1)), as-stood (s .image) (s′ .image) (x .0) (y .0))
+  accepted u counts s s′ x y =
+      ((x .1 .files′ ∙ sym (y .1 .files′), x .1 .free ∙ sym (y .1 .free)), as-stood (s .image) (s′ .image) (x .0) (y .0))
+  accepted u measures s s′ x y =
+      let v = x .1 in let w = y .1 in
+      let a = w .none-longer (v .first) (s .answer .longest) (v .stretch) in let b = v .none-longer (w .first) (s′ .answer .longest) (w .stretch) in
       let e : s .answer .longest ≡ s′ .answer .longest = omega (arith, a, b) in
-      ((x .clear ∙ sym (y .clear), e), as-stood (s .image) (s′ .image) (o tt) (o′ tt))
+      ((v .clear ∙ sym (w .clear), e), as-stood (s .image) (s′ .image) (x .0) (y .0))
 
   refused : (c : Call) (s s′ : Said c) → Refuses g d c s → Refuses g d c s′ → SameAnswer d c (s .answer) (s′ .answer)
   refused checks s s′ x y = tt
@@ -226,7 +228,7 @@ module _ (g : Geometry) (d : List ℕ) where
     where
       by : s .number′ ≡ s′ .number′ → Dec (s .number′ ≡ 0) → Fixed g d c s s′
       by n (yes e) =
-          let w = accepted c s s′ (x .looks) (y .looks) (x .serves b e) (y .serves b (sym n ∙ e)) in
+          let w = accepted b c s s′ (x .serves e) (y .serves (sym n ∙ e)) in
           record { number = n; answer = w .0; files = w .1 }
       by n (no k) =
           let v = x .refuses k in let w = y .refuses (λ e. k (n ∙ e)) in

@@ -12,16 +12,12 @@ use Rattle.meaning_table.specs.Samples.{opened, three, sample, puls, held}
 use Rattle.meaning.specs.declared.Geometry.{Geometry}
 use Rattle.meaning.specs.declared.Handle.{Handle}
 use Rattle.meaning.specs.Calls.Call.{checks, looksUp, reads, kills}
-use Rattle.promises_words.specs.Given.{AreBytes}
 use Rattle.promises.specs.Said.{Said}
 use Rattle.promises.specs.Promises
 use Rattle.promises.specs.Promises.{Promised, matching}
 use Rattle.promises.specs.Kept.{every-call}
 use Rattle.strength.specs.Programs.{Program, Meets, RefusesAll, AlwaysAlike, ChangesNothing, FirstOnly}
 use Rattle.strength.specs.Fixed.{one-number, one-file, there-or-not}
-
-bytes : AreBytes sample
-bytes = refl
 
 -- `numbers`: each number exactly in its case. So the number is the one that the definitions give, whoever says it.
 numbered : (g : Geometry) (d : List ℕ) (c : Call) (s : Said c) → Promised g d c s → s .number′ ≡ number g d c
@@ -67,8 +63,8 @@ pub always-alike : (p : Program) → Meets p → AlwaysAlike p → ⊥
 always-alike p m r =
     let c = byteAt 255 in let s = p three sample (c ∷ []) .0 in let x = m three sample (c ∷ []) .0 in
     let c′ = byteAt 256 in let s′ = p three sample (c′ ∷ []) .0 in let x′ = m three sample (c′ ∷ []) .0 in
-    let v = x .serves bytes (numbered three sample c s x ∙ first-read) in
-    let w = x′ .serves bytes (numbered three sample c′ s′ x′ ∙ second-read) in
+    let v = x .serves (numbered three sample c s x ∙ first-read) .1 in
+    let w = x′ .serves (numbered three sample c′ s′ x′ ∙ second-read) .1 in
     let a : s .answer .1 ≡ 0x43 ∷ [] =
     v .buffer ∙ ap (λ (f : File). take 1 (drop 255 (f .bytes)) ++ []) (one-file (v .called) file-there) ∙ ap (λ (b : List ℕ). b ++ []) first-byte in
     let b : s′ .answer .1 ≡ 0x44 ∷ [] =
@@ -88,25 +84,20 @@ killed = refl
 pub changes-nothing : (p : Program) → Meets p → ChangesNothing p → ⊥
 changes-nothing p m r =
     let s = p three sample (killing ∷ []) .0 in let x = m three sample (killing ∷ []) .0 in
-    let v = x .serves bytes (numbered three sample killing s x ∙ killed) .becomes in
+    let v = x .serves (numbered three sample killing s x ∙ killed) .becomes in
     there-or-not (v .before) (sym (ap (λ (d : List ℕ). plain three d puls) (r three sample killing)) ∙ v .after)
 
-good : Promises.Good three sample
-unfolding opened
-good = record { fits = refl; sound = refl; bytes = refl }
-
 -- Serves the first call and fakes the others: the promises hold from each state reached. After a kill the file is gone, so no second one is
--- accepted, whatever image the program has left, if it is one of bytes.
+-- accepted, whatever image the program has left.
 pub first-only : (p : Program) → Meets p → FirstOnly p → ⊥
 first-only p m r =
     let cs = killing ∷ killing ∷ [] in
     let s = p three sample cs .0 in let x = m three sample cs .0 in let y = m three sample cs .1 .0 in
-    let k = x .stays good tt .good .bytes in
-    let v = x .serves bytes (numbered three sample killing s x ∙ killed) .becomes in
-    let w = y .serves k (r three sample killing (killing ∷ []) .0) .becomes in
+    let v = x .serves (numbered three sample killing s x ∙ killed) .becomes in
+    let w = y .serves (r three sample killing (killing ∷ []) .0) .becomes in
     there-or-not (w .before) (v .after)
 
 -- An invented comparison count falls to the look-up rule: so many slots up to the one told have the hash.
-pub count-fixed : (p : Program) → Meets p → (g : Geometry) (d n : List ℕ) → AreBytes d → p g d (looksUp n ∷ []) .0 .number′ ≡ 0
+pub count-fixed : (p : Program) → Meets p → (g : Geometry) (d n : List ℕ) → p g d (looksUp n ∷ []) .0 .number′ ≡ 0
     → p g d (looksUp n ∷ []) .0 .answer .compared ≡ matching g d (fold n) (p g d (looksUp n ∷ []) .0 .answer .slot)
-count-fixed p m g d n b e = m g d (looksUp n ∷ []) .0 .serves b e .compared
+count-fixed p m g d n e = m g d (looksUp n ∷ []) .0 .serves e .1 .compared

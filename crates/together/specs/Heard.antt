@@ -20,6 +20,7 @@ use Rattle.meaning.specs.declared.Handle.{Handle}
 use Rattle.promises.specs.Promises
 use Rattle.promises.specs.Sector
 use Rattle.promises.specs.Staying
+use Rattle.together.specs.Statement.{asked, leavesAll}
 use Rattle.together.specs.Statement.{Name, Step, looksUp, opens, creates, moves, reads, readsSector, writes, allots, trims, kills, Side, Brings}
 use Rattle.together.specs.Statement.{AllBring, known, answer, kept, handleAt, manyBy, Grip, grip, Turn, one, two, Interleaving, none, left, right}
 use Rattle.together.specs.Statement.{World, next, after, Accepted}
@@ -107,22 +108,13 @@ call-heard g n d s (trims i) h u t e = sym (append-nil (s .heard))
 call-heard g n d s (kills i) h u t e = sym (append-nil (s .heard))
 
 -- bytes stay bytes
-bytes-stay : (g : Geometry) (d : List ℕ) → Good g d → AreBytes d → (c : Call) → Promises.Brings c → AreBytes (leaves g d c)
-unfolding Good
-bytes-stay g d k u c b = Staying.stays g d (record { fits = k .0; sound = k .1; bytes = u }) c b .good .bytes
+bytes-after : (g : Geometry) (d : List ℕ) (cs : List Call) → Promises.Good g d → Promises.AllBring cs → AreBytes (leavesAll g d cs)
+bytes-after g d [] k b = k .bytes
+bytes-after g d (c ∷ cs) k b = bytes-after g (leaves g d c) cs (Staying.stays g d k c (b .0) .good) (b .1)
 
-call-bytes : (g : Geometry) (n : Name) (d : List ℕ) (s : Side) (c : Step) → Good g d → AreBytes d → Brings c → AreBytes (answer g n d s c .disk)
-unfolding answer number leaves
-call-bytes g n d s looksUp k u b = u
-call-bytes g n d s (opens len checking code) k u b = u
-call-bytes g n d s (creates f checking) k u b = bytes-stay g d k u (Call.creates n f checking) b
-call-bytes g n d s (moves i at) k u b = u
-call-bytes g n d s (reads a i x) k u b = u
-call-bytes g n d s (readsSector i j) k u b = u
-call-bytes g n d s (writes a m i x) k u b = bytes-stay g d k u (Call.writes a m (handleAt (s .handles) i) x) b
-call-bytes g n d s (allots i j) k u b = bytes-stay g d k u (Call.allots (handleAt (s .handles) i) j) tt
-call-bytes g n d s (trims i) k u b = bytes-stay g d k u (Call.trims (handleAt (s .handles) i)) tt
-call-bytes g n d s (kills i) k u b = bytes-stay g d k u (Call.kills (handleAt (s .handles) i)) tt
+pub call-bytes : (g : Geometry) (n : Name) (d : List ℕ) (s : Side) (c : Step) → Good g d → AreBytes d → Brings c → AreBytes (answer g n d s c .disk)
+unfolding answer Good
+call-bytes g n d s c k u b = bytes-after g d (asked n (s .handles) c) (record { fits = k .0; sound = k .1; bytes = u }) (b n (s .handles))
 
 -- by its own list alone
 pub end-heard : (g : Geometry) (a b : Name) → fold a ≢ fold b → {xs ys : List Step} {zs : List Turn} → Interleaving xs ys zs → (w : World) → Fine g a b w →

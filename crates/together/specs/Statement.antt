@@ -25,7 +25,8 @@ use Rattle.meaning.specs.Read.{readOf, readSector}
 use Rattle.meaning.specs.Write.{writeOf}
 use Rattle.meaning.specs.Calls.{Call, number, leaves}
 use Rattle.meaning.specs.Plain.{File, Found, found, nothing, plain, isSystem}
-use Rattle.promises_words.specs.Given.{AreBytes, CodesFit}
+use Rattle.promises_words.specs.Given.{AreBytes}
+use Rattle.promises.specs.Promises
 use Rattle.meaning.specs.declared.Geometry.{Geometry}
 use Rattle.meaning.specs.declared.Handle.{Handle}
 use Rattle.meaning.specs.declared.NewFile.{NewFile}
@@ -241,16 +242,7 @@ grip h = record { name = h .name; at = h .at; len = h .len; level = h .level }
 
 -- what a caller's types see to: a record to be written is of bytes, the codes of a new file have 16 bits
 abbrev pub Brings : Step → Type 0
-Brings looksUp = Unit {0}
-Brings (opens len checking code) = Unit {0}
-Brings (creates f checking) = CodesFit f
-Brings (moves i at) = Unit {0}
-Brings (reads a i buffer) = Unit {0}
-Brings (readsSector i k) = Unit {0}
-Brings (writes a m i bytes) = AreBytes bytes
-Brings (allots i k) = Unit {0}
-Brings (trims i) = Unit {0}
-Brings (kills i) = Unit {0}
+Brings c = (n : Name) (hs : List Handle) → Promises.AllBring (asked n hs c)
 
 abbrev pub AllBring : List Step → Type 0
 AllBring [] = Unit {0}
