@@ -7,26 +7,16 @@ use mathlib.Core.Logic.{_≢_}
 use mathlib.Core.Bool.{Bool, true, false, cond}
 use mathlib.Core.List.{List, [], _∷_, _++_}
 use lib.Dec.{ltb}
-use lib.ListN.{length, getD, take, drop, replicate}
-use lib.Seq.{sets}
-use Rattle.meaning.specs.LookUp.{lookUp}
-use Rattle.meaning.specs.Open.{open′}
-use Rattle.meaning.specs.Create.{create}
+use lib.ListN.{length, take, drop, replicate}
 use Rattle.meaning.specs.Amount.{Amount, oneRecord, wholeBuffer, howMany}
-use Rattle.meaning.specs.Read.{readOf, readSector}
-use Rattle.meaning.specs.Write.{writeOf}
-use Rattle.meaning.specs.Listing
-use Rattle.meaning.specs.FreeSpace.{freeSpace}
-use Rattle.meaning.specs.Calls.{Call, number, leaves}
+use Rattle.meaning.specs.Calls.{Call}
 use Rattle.meaning.specs.declared.Geometry.{Geometry}
 use Rattle.meaning.specs.declared.NewFile.{NewFile}
-use Rattle.promises_words.specs.Given.{AreBytes}
-use Rattle.lists.specs.Members.{In}
-use Rattle.promises.specs.Said.{says}
-use Rattle.promises.specs.Promises.{Brings, Good, Stays, Serves, Table, Exactly, table, diskCases}
-use Rattle.promises_numbers.specs.Statement.{rowsOf}
-use Rattle.genie_codec.specs.Codec.{handleBytes, nameBytes, handleOf, HandleFits}
-use Rattle.genie_codec.specs.Words.{modeOf, told}
+use Rattle.promises.specs.Said.{Said}
+use Rattle.promises.specs.Promises.{Brings, Good, Stays, Promised, Table, Exactly, table, diskCases}
+use Rattle.genie_codec.specs.Codec.{handleBytes, nameBytes, handleOf}
+use Rattle.genie_codec.specs.Words.{modeOf}
+use Rattle.genie.specs.Exports as exports
 use Rattle.genie.specs.Exports.{exportedCheck, exportedLookUp, exportedOpen, exportedCreate, exportedReadRecord, exportedReadBytes, exportedReadSector}
 use Rattle.genie.specs.Exports.{exportedWriteRecord, exportedWriteBytes, exportedAllot, exportedTrim, exportedKill, exportedList, exportedCount, exportedFree}
 
@@ -135,6 +125,22 @@ callOf (lists i b) = Call.lists i
 callOf counts = Call.counts
 callOf measures = Call.measures
 
+-- what is said of that call (promises: Said), as it goes out to the host
+abbrev pub goesOut : (c : HostCall) → Said (callOf c) → LeftToHost
+goesOut checks s = left (s .number′) (s .image) [] [] (s .answer .at ∷ [])
+goesOut (looksUp n) s = let r = exports.looks (s .answer) in left (s .number′) (s .image) [] [] (r .1 ∷ r .2 ∷ r .3 ∷ r .4 ∷ [])
+goesOut (opens n len checking code b) s = let r = exports.opens b (s .answer) in left (s .number′) (s .image) (r .3) [] (r .1 ∷ r .2 ∷ [])
+goesOut (creates n f checking b) s = let r = exports.creates b (s .answer, s .image) in left (s .number′) (s .image) (r .4) [] (r .1 ∷ r .2 ∷ r .3 ∷ [])
+goesOut (reads a b x) s = let r = exports.moves b (s .answer) in left (s .number′) (s .image) (r .2) (r .3) (r .1 ∷ [])
+goesOut (readsSector b k) s = let r = exports.lies (s .answer) in left (s .number′) (s .image) b [] (r .1 ∷ r .2 ∷ r .3 ∷ [])
+goesOut (writes a m b x) s = let r = exports.moves b (s .answer, s .image) in left (s .number′) (s .image) (r .2) x (r .1 ∷ [])
+goesOut (allots b k) s = left (s .number′) (s .image) b [] (s .answer .refusal .at ∷ [])
+goesOut (trims b) s = left (s .number′) (s .image) b [] (s .answer .refusal .at ∷ [])
+goesOut (kills b) s = left (s .number′) (s .image) b [] (s .answer .refusal .at ∷ [])
+goesOut (lists i b) s = let r = exports.tells b (s .answer) in left (s .number′) (s .image) [] (r .5) (r .1 ∷ r .2 ∷ r .3 ∷ r .4 ∷ [])
+goesOut counts s = let r = exports.numbers (s .answer) in left (s .number′) (s .image) [] [] (r .1 ∷ r .2 ∷ r .3 ∷ [])
+goesOut measures s = let r = exports.spaces (s .answer) in left (s .number′) (s .image) [] [] (r .1 ∷ r .2 ∷ [])
+
 -- "A handle under 19 bytes is 12; so is the listing's outgoing name buffer under 11 bytes": the slice is too short
 abbrev pub tooShort : HostCall → Bool
 tooShort checks = false
@@ -186,44 +192,21 @@ tableIf false g d c = table g d c
 abbrev pub tableFor : Geometry → List ℕ → HostCall → Table
 tableFor g d c = tableIf (tooShort c) g d (callOf c)
 
--- What an accepted call hands to the host is what demand 2 speaks of: the slice holds the handle, where the numbers of the one that came in fit their
--- bytes, as those of any 19 bytes do (promises_handles: bytes-fit); the buffer is that of the call, and so are the numbers told.
-abbrev pub HandsOver : Geometry → List ℕ → HostCall → LeftToHost → Type 0
-HandsOver g d checks l = Unit {0}
-HandsOver g d (looksUp n) l = (getD (l .told) 2 0 ≡ lookUp g d n .slot) × (getD (l .told) 3 0 ≡ lookUp g d n .compared)
-HandsOver g d (opens n len checking code b) l = handleOf (l .handle) ≡ open′ g d n len checking code .handle
-HandsOver g d (creates n f checking b) l = let c = create g d n f checking .0 in (handleOf (l .handle) ≡ c .handle) × (getD (l .told) 2 0 ≡ told (c .old))
-HandsOver g d (reads a b x) l =
-    let r = readOf g d (handleOf b) (howMany a (handleOf b .len) x) x in (HandleFits (handleOf b) → handleOf (l .handle) ≡ r .0 .handle) × (l .buffer ≡ r .1)
-HandsOver g d (readsSector b k) l = let p = readSector g d (handleOf b) k in (getD (l .told) 1 0 ≡ p .from) × (getD (l .told) 2 0 ≡ p .to) × (l .handle ≡ b)
-HandsOver g d (writes a m b x) l =
-    let r = writeOf g d (modeOf m) (handleOf b) (howMany a (handleOf b .len) x) x in
-    (HandleFits (handleOf b) → handleOf (l .handle) ≡ r .0 .handle) × (l .buffer ≡ x)
-HandsOver g d (allots b k) l = l .handle ≡ b
-HandsOver g d (trims b) l = l .handle ≡ b
-HandsOver g d (kills b) l = l .handle ≡ b
-HandsOver g d (lists i b) l =
-    let p = Listing.list g d i in
-    (getD (l .told) 1 0 ≡ p .size) × (getD (l .told) 2 0 ≡ p .granules) × (getD (l .told) 3 0 ≡ told (p .more))
-    × (l .buffer ≡ cond (p .more) (sets b 0 (p .name)) b)
-HandsOver g d counts l = (getD (l .told) 1 0 ≡ Listing.counts g d .files) × (getD (l .told) 2 0 ≡ Listing.counts g d .free)
-HandsOver g d measures l = (getD (l .told) 0 0 ≡ freeSpace g d .free) × (getD (l .told) 1 0 ≡ freeSpace g d .longest)
-
--- of a host's call that left l
-pub record HostPromise (g : Geometry) (d : List ℕ) (c : HostCall) (l : LeftToHost) : Type 0 where
-  -- all that goes out is fixed
-  pub is : l ≡ leftBy g d c
-  -- 0, or a number of the call's table
-  pub numbered : In (l .number) (0 ∷ rowsOf (tableFor g d c))
-  -- each exactly in its case, where no earlier one is
+-- of a host's call that left l, whoever serves it
+pub record HostPromised (g : Geometry) (d : List ℕ) (c : HostCall) (l : LeftToHost) : Type 0 where
+  -- each number exactly in its case, where no earlier one is; 0 in none
   pub exactly : Exactly (l .number) (tableFor g d c)
   -- under any other than 0 every lent byte is as it stood
   pub refuses : l .number ≢ 0 → AsStoodForHost d c l
-  -- accepted, it is the call of demand 2 with the handle that the bytes hold: that call is accepted, does what is promised of it, and leaves this image
-  pub serves : l .number ≡ 0 → (number g d (callOf c) ≡ 0) × Serves g d (callOf c) (says g d (callOf c)) × (l .image ≡ leaves g d (callOf c))
-  pub hands : l .number ≡ 0 → HandsOver g d c l
   -- accepted or refused, the disk stays good
   pub stays : Good g d → Brings (callOf c) → Stays g d (l .image)
+  -- what goes out is said of the call of demand 2 with the handle that the bytes hold, and keeps what is promised of it
+  pub said : tooShort c ≡ false → (s : Said (callOf c)) × Promised g d (callOf c) s × (l ≡ goesOut c s)
+
+-- of an exported function's: all that goes out is fixed as well
+pub record HostPromise (g : Geometry) (d : List ℕ) (c : HostCall) (l : LeftToHost) : Type 0 where
+  pub is : l ≡ leftBy g d c
+  pub promised : HostPromised g d c l
 
 abbrev pub EveryHostCall : Type 0
 EveryHostCall = (g : Geometry) (d : List ℕ) (c : HostCall) → HostPromise g d c (leftBy g d c)

@@ -2,43 +2,67 @@
 -- hold; where it is too short, 1, a fault's number or 12 is told, and nothing is touched.
 use Prim.Native.Nat.{ℕ}
 use mathlib.Core.Path.{_≡_, refl, sym, ap, subst, _∙_}
-use mathlib.Core.Logic.{_≢_}
+use mathlib.Core.Logic.{_≢_, _⊎_, inl, inr}
 use mathlib.Core.Bool.{Bool, true, false, not, cond}
 use mathlib.Core.List.{List, [], _∷_}
+use native.Mathlib.Decide.{ℕ-discrete}
 use lib.Dec.{T}
-use lib.ListN.{length}
+use lib.ListN.{length, getD}
 use lib.Seq.{sets}
 use borrow.Author.Tests.{eq-eqb, ne-eqb, ltb-false}
 use Rattle.meaning.specs.Amount.{oneRecord, wholeBuffer, howMany}
 use Rattle.meaning.specs.Refusals.{first, diskRefusals}
-use Rattle.meaning.specs.Read.{readOf}
+use Rattle.meaning.specs.LookUp.{lookUp}
+use Rattle.meaning.specs.Open.{open′}
+use Rattle.meaning.specs.Create.{create}
+use Rattle.meaning.specs.Read.{readOf, readSector}
 use Rattle.meaning.specs.Write.{writeOf}
+use Rattle.meaning.specs.Listing
+use Rattle.meaning.specs.FreeSpace.{freeSpace}
 use Rattle.meaning.specs.Calls.{Call, number, leaves}
 use Rattle.meaning.specs.declared.Geometry.{Geometry}
 use Rattle.meaning.specs.declared.Listed.{Listed}
-use Rattle.lists.specs.First.{first-in}
 use Rattle.lists.specs.Tests.{first-at}
 use Rattle.lists.specs.Members.{In}
 use Rattle.promises.specs.Said.{says}
-use Rattle.promises.specs.Promises.{Stays, Refuses, Exactly, table, diskCases}
+use Rattle.promises.specs.Promises.{Stays, Refuses, Table, Rows, Exactly, table, diskCases}
 use Rattle.promises.specs.Refusing.{exactly, disk-reading}
 use Rattle.promises.specs.Staying.{stays-same}
 use Rattle.promises.specs.Kept.{every-call, every-write, stays-after}
 use Rattle.promises_numbers.specs.Statement.{rowsOf}
-use Rattle.promises_numbers.specs.Kept.{every-number}
-use Rattle.genie_codec.specs.Codec.{handleBytes, handleOf, stored}
-use Rattle.genie_codec.specs.Words.{modeOf}
+use Rattle.genie_codec.specs.Codec.{handleBytes, handleOf, stored, HandleFits}
+use Rattle.genie_codec.specs.Words.{modeOf, told}
 use Rattle.genie_codec.proofs.Fitting.{open-fits, create-fits, read-fits, write-fits}
 use Rattle.genie.specs.Exports as exports
 use Rattle.genie.specs.Exports.{moves, tells}
 use Rattle.promises_handles.specs.HandleBytes.{stored-back, stored-length, stored-zeros}
 use Rattle.promises_exports.specs.Host.{HostCall, checks, looksUp, opens, creates, reads, readsSector, writes, allots, trims, kills, lists, counts}
 use Rattle.promises_exports.specs.Host.{measures}
-use Rattle.promises_exports.specs.Host.{LeftToHost, leftBy, callOf, tooShort, lentHandle, lentBuffer, handleStood}
-use Rattle.promises_exports.specs.Host.{HandsOver, HostPromise, EveryHostCall, AllBring, Along, EveryHostState, EveryHostWrite}
+use Rattle.promises_exports.specs.Host.{LeftToHost, leftBy, callOf, goesOut, tooShort, lentHandle, lentBuffer, handleStood}
+use Rattle.promises_exports.specs.Host.{HostPromised, HostPromise, EveryHostCall, AllBring, Along, EveryHostState, EveryHostWrite}
 
 pub no-truth : false ≡ true → ⊥
 no-truth e = subst (λ (t : Bool). T (not t)) e tt
+
+-- A number that is given exactly in its case is 0 or one of its table: where it is none of these no case holds, and then it is 0.
+among : (n : ℕ) (rs : Table) (E : Type 0) → E → Rows n E rs → (n ≡ 0) ⊎ In n (rowsOf rs)
+among n [] E e x = inl (x .1 e)
+among n (r ∷ rs) E e x = by (λ k. among n rs (E × (r .1 → ⊥)) k (x .1)) (ℕ-discrete n (r .0))
+  where
+    later : (n ≡ 0) ⊎ In n (rowsOf rs) → (n ≡ 0) ⊎ In n (r .0 ∷ rowsOf rs)
+    later (inl z) = inl z
+    later (inr i) = inr (In.there i)
+
+    by : (E × (r .1 → ⊥) → (n ≡ 0) ⊎ In n (rowsOf rs)) → Dec (n ≡ r .0) → (n ≡ 0) ⊎ In n (r .0 ∷ rowsOf rs)
+    by rest (yes p) = inr (subst (λ (k : ℕ). In k (r .0 ∷ rowsOf rs)) (sym p) In.here)
+    by rest (no q) = later (rest (e, λ h. q (x .0 .1 (e, h))))
+
+pub numbered-by : (rs : Table) (n : ℕ) → Exactly n rs → In n (0 ∷ rowsOf rs)
+numbered-by rs n x = whole (among n rs (Unit {0}) tt x)
+  where
+    whole : (n ≡ 0) ⊎ In n (rowsOf rs) → In n (0 ∷ rowsOf rs)
+    whole (inl z) = subst (λ (k : ℕ). In k (0 ∷ rowsOf rs)) (sym z) In.here
+    whole (inr i) = In.there i
 
 -- Long enough, and too short --------------------------------------------------------------------------------------------------------------
 
@@ -82,7 +106,7 @@ module _ (g : Geometry) (d : List ℕ) where
   image-is measures e = refl
 
   -- what is lent too short is turned away
-  abbrev turned : ℕ
+  abbrev pub turned : ℕ
   turned = first (diskRefusals g d ((12, true) ∷ []))
 
   turned-number : (c : HostCall) → tooShort c ≡ true → leftBy g d c .number ≡ turned
@@ -153,19 +177,39 @@ module _ (g : Geometry) (d : List ℕ) where
   turned-buffer counts e = refl
   turned-buffer measures e = refl
 
-  turned-exactly : Exactly turned (diskCases g d ((12, Unit {0}) ∷ []))
+  pub turned-exactly : Exactly turned (diskCases g d ((12, Unit {0}) ∷ []))
   turned-exactly =
       exactly (diskRefusals g d ((12, true) ∷ [])) (diskCases g d ((12, Unit {0}) ∷ []))
       (disk-reading g d ((12, true) ∷ []) ((12, Unit {0}) ∷ []) (refl, λ x. (λ t. tt, λ t. tt), tt)) tt
 
   -- 12 at the latest: it is refused
-  never-accepted : turned ≢ 0
+  pub never-accepted : turned ≢ 0
   never-accepted z = no-truth (sym (first-at (diskRefusals g d ((12, true) ∷ [])) z refl 11))
+
+  -- What goes out is what is said of the call of demand 2 ----------------------------------------------------------------------------------------
+
+  out-is : (c : HostCall) → tooShort c ≡ false → leftBy g d c ≡ goesOut c (says g d (callOf c))
+  unfolding number leaves moves tells
+  out-is checks e = refl
+  out-is (looksUp n) e = refl
+  out-is (opens n len checking code b) e = rw e refl
+  out-is (creates n f checking b) e = rw e refl
+  out-is (reads oneRecord b x) e = rw e refl
+  out-is (reads wholeBuffer b x) e = rw e refl
+  out-is (readsSector b k) e = rw e refl
+  out-is (writes oneRecord m b x) e = rw e refl
+  out-is (writes wholeBuffer m b x) e = rw e refl
+  out-is (allots b k) e = rw e refl
+  out-is (trims b) e = rw e refl
+  out-is (kills b) e = rw e refl
+  out-is (lists i b) e = rw e refl
+  out-is counts e = refl
+  out-is measures e = refl
 
   -- Each number is of its table -----------------------------------------------------------------------------------------------------------------
 
   pub numbered : (c : Call) → In (number g d c) (0 ∷ rowsOf (table g d c))
-  numbered c = let e = every-number g d c in subst (λ (ns : List ℕ). In (number g d c) (0 ∷ ns)) (sym (e .table′)) (e .one-of)
+  numbered c = numbered-by (table g d c) (number g d c) (every-call g d c .numbers)
 
   -- Under a refusal every lent byte is as it stood ----------------------------------------------------------------------------------------------
 
@@ -212,7 +256,31 @@ module _ (g : Geometry) (d : List ℕ) where
 
   -- What an accepted call hands over ----------------------------------------------------------------------------------------------------------------
 
-  hands : (c : HostCall) → tooShort c ≡ false → number g d (callOf c) ≡ 0 → HandsOver g d c (leftBy g d c)
+  -- What an accepted call hands to the host is what the definitions of demand 2's calls answer: the slice holds the handle, where the numbers of the one
+  -- that came in fit their bytes, as those of any 19 bytes do (promises_handles: bytes-fit); the buffer is that of the call, and so are the numbers told.
+  abbrev pub HandsOver : HostCall → LeftToHost → Type 0
+  HandsOver checks l = Unit {0}
+  HandsOver (looksUp n) l = (getD (l .told) 2 0 ≡ lookUp g d n .slot) × (getD (l .told) 3 0 ≡ lookUp g d n .compared)
+  HandsOver (opens n len checking code b) l = handleOf (l .handle) ≡ open′ g d n len checking code .handle
+  HandsOver (creates n f checking b) l = let c = create g d n f checking .0 in (handleOf (l .handle) ≡ c .handle) × (getD (l .told) 2 0 ≡ told (c .old))
+  HandsOver (reads a b x) l =
+      let r = readOf g d (handleOf b) (howMany a (handleOf b .len) x) x in
+      (HandleFits (handleOf b) → handleOf (l .handle) ≡ r .0 .handle) × (l .buffer ≡ r .1)
+  HandsOver (readsSector b k) l = let p = readSector g d (handleOf b) k in (getD (l .told) 1 0 ≡ p .from) × (getD (l .told) 2 0 ≡ p .to) × (l .handle ≡ b)
+  HandsOver (writes a m b x) l =
+      let r = writeOf g d (modeOf m) (handleOf b) (howMany a (handleOf b .len) x) x in
+      (HandleFits (handleOf b) → handleOf (l .handle) ≡ r .0 .handle) × (l .buffer ≡ x)
+  HandsOver (allots b k) l = l .handle ≡ b
+  HandsOver (trims b) l = l .handle ≡ b
+  HandsOver (kills b) l = l .handle ≡ b
+  HandsOver (lists i b) l =
+      let p = Listing.list g d i in
+      (getD (l .told) 1 0 ≡ p .size) × (getD (l .told) 2 0 ≡ p .granules) × (getD (l .told) 3 0 ≡ told (p .more))
+      × (l .buffer ≡ cond (p .more) (sets b 0 (p .name)) b)
+  HandsOver counts l = (getD (l .told) 1 0 ≡ Listing.counts g d .files) × (getD (l .told) 2 0 ≡ Listing.counts g d .free)
+  HandsOver measures l = (getD (l .told) 0 0 ≡ freeSpace g d .free) × (getD (l .told) 1 0 ≡ freeSpace g d .longest)
+
+  hands : (c : HostCall) → tooShort c ≡ false → number g d (callOf c) ≡ 0 → HandsOver c (leftBy g d c)
   unfolding number moves tells
   hands checks e z = tt
   hands (looksUp n) e z = (refl, refl)
@@ -257,43 +325,37 @@ module _ (g : Geometry) (d : List ℕ) where
 
   -- All of it ------------------------------------------------------------------------------------------------------------------------------------
 
-  of-call : (c : HostCall) → tooShort c ≡ false → HostPromise g d c (leftBy g d c)
+  of-call : (c : HostCall) → tooShort c ≡ false → HostPromised g d c (leftBy g d c)
   of-call c e =
       let p = every-call g d (callOf c) in
       let n = number-is c e in
       let u : leftBy g d c .number ≢ 0 → number g d (callOf c) ≢ 0 = λ z y. z (n ∙ y) in
       record {
-        is = refl;
-        numbered = rw e (rw n (numbered (callOf c)));
         exactly = rw e (rw n (p .numbers));
         refuses = λ z. record {
           image = image-is c e ∙ p .refuses (u z) .0;
           handle = stood-handle c e (u z);
           buffer = stood-buffer c e (u z);
         };
-        serves = λ z. (sym n ∙ z, p .serves (sym n ∙ z), image-is c e);
-        hands = λ z. hands c e (sym n ∙ z);
         stays = λ o b. subst (Stays g d) (sym (image-is c e)) (p .stays o b);
+        said = λ f. (says g d (callOf c), p, out-is c e);
       }
 
-  of-short : (c : HostCall) → tooShort c ≡ true → HostPromise g d c (leftBy g d c)
+  of-short : (c : HostCall) → tooShort c ≡ true → HostPromised g d c (leftBy g d c)
   of-short c e =
       let n = turned-number c e in
       record {
-        is = refl;
-        numbered = rw e (rw n (first-in (diskRefusals g d ((12, true) ∷ []))));
         exactly = rw e (rw n turned-exactly);
         refuses = λ z. record { image = turned-image c e; handle = turned-handle c e; buffer = turned-buffer c e };
-        serves = λ z. absurd (never-accepted (sym n ∙ z));
-        hands = λ z. absurd (never-accepted (sym n ∙ z));
         stays = λ o b. subst (Stays g d) (sym (turned-image c e)) (stays-same g d o);
+        said = λ f. absurd (no-truth (sym f ∙ e));
       }
 
 -- demands 1 and 2, of every call that a host makes
 pub every-host-call : EveryHostCall
-every-host-call g d c = by (tooShort c) refl
+every-host-call g d c = record { is = refl; promised = by (tooShort c) refl }
   where
-    by : (t : Bool) → tooShort c ≡ t → HostPromise g d c (leftBy g d c)
+    by : (t : Bool) → tooShort c ≡ t → HostPromised g d c (leftBy g d c)
     by true e = of-short g d c e
     by false e = of-call g d c e
 
@@ -301,7 +363,7 @@ along : (g : Geometry) (d₀ d : List ℕ) → Stays g d₀ d → (cs : List Hos
 along g d₀ d s [] b = s
 along g d₀ d s (c ∷ cs) b =
     let p = every-host-call g d c in
-    let d′ = leftBy g d c .image in (s, p, along g d₀ d′ (stays-after g d₀ d d′ s (p .stays (s .good) (b .0))) cs (b .1))
+    let d′ = leftBy g d c .image in (s, p, along g d₀ d′ (stays-after g d₀ d d′ s (p .promised .stays (s .good) (b .0))) cs (b .1))
 
 -- from each state that a host's calls reach
 pub every-host-state : EveryHostState
@@ -314,6 +376,10 @@ long-enough g d c z = by (tooShort c) refl
     by : (t : Bool) → tooShort c ≡ t → t ≡ false
     by true e = absurd (never-accepted g d (sym (turned-number g d c e) ∙ z))
     by false e = refl
+
+-- an accepted call hands over what the definitions answer
+pub handed-over : (g : Geometry) (d : List ℕ) (c : HostCall) → leftBy g d c .number ≡ 0 → HandsOver g d c (leftBy g d c)
+handed-over g d c z = let e = long-enough g d c z in hands g d c e (sym (number-is g d c e) ∙ z)
 
 -- what is written is what is read back
 pub every-host-write : EveryHostWrite
@@ -329,7 +395,7 @@ every-host-write g d a m b x x′ z l same =
     let r = number-is g d′ (reads a b x′) e ∙ ok in
     record {
       accepted = r;
-      bytes = every-host-call g d′ (reads a b x′) .hands r .1 ∙ ap (λ (k : ℕ). readOf g d′ h k x′ .1) same
+      bytes = handed-over g d′ (reads a b x′) r .1 ∙ ap (λ (k : ℕ). readOf g d′ h k x′ .1) same
           ∙ ap (λ (y : List ℕ). readOf g y h n x′ .1) i ∙ back .bytes′ x′ l;
     }
 

@@ -23,7 +23,7 @@ use Rattle.genie_codec.specs.Words.{modeOf}
 use Rattle.genie_codec.proofs.Fitting.{open-fits, create-fits, read-fits, write-fits}
 use Rattle.promises_handles.specs.HandleBytes.{stored-back, stored-length, setPosition, positions, position-set, position-length}
 use Rattle.promises_exports.specs.Host.{HostCall, leftBy, callOf, lentHandle}
-use Rattle.promises_exports.specs.Proved.{number-is, image-is, long-enough, handle-length, every-host-call}
+use Rattle.promises_exports.specs.Proved.{number-is, image-is, long-enough, handle-length, handed-over}
 use Rattle.promises_exports.specs.HostLists.{HostStep, looksUp, opens, creates, moves, reads, readsSector, writes, allots, trims, kills}
 use Rattle.promises_exports.specs.HostLists.{HostSide, sliceAt, answer, stepOf, sideOf, HostTurn, one, two, turnOf, HostWorld}
 use Rattle.promises_exports.specs.HostLists.{worldOf}
@@ -123,7 +123,7 @@ module _ (g : Geometry) (n : Name) (d : List ℕ) (s : HostSide) (h : AllHold (s
   step looksUp z = let k = HostCall.looksUp n in record { number = number-by k refl z; disk = disk-by k refl z; side = refl; held = h }
   step (opens len checking code b) z =
       let k = HostCall.opens n len checking code b in
-      let q = every-host-call g d k .hands z in
+      let q = handed-over g d k z in
       record {
         number = number-by k refl z;
         disk = disk-by k refl z;
@@ -132,7 +132,7 @@ module _ (g : Geometry) (n : Name) (d : List ℕ) (s : HostSide) (h : AllHold (s
       }
   step (creates f checking b) z =
       let k = HostCall.creates n f checking b in
-      let q = every-host-call g d k .hands z .0 in
+      let q = handed-over g d k z .0 in
       record {
         number = number-by k refl z;
         disk = disk-by k refl z;
@@ -151,7 +151,7 @@ module _ (g : Geometry) (n : Name) (d : List ℕ) (s : HostSide) (h : AllHold (s
   step (reads a i x) z =
       let k = HostCall.reads a (held-slice i) x in
       let o = held-at h i in
-      let q = every-host-call g d k .hands z in
+      let q = handed-over g d k z in
       let e : handleAt hs i ≡ handleOf (held-slice i) = at-is (s .handles) i in
       record {
         number = number-by k (ap (λ (y : Handle). Call.reads a y x) e) z;
@@ -165,7 +165,7 @@ module _ (g : Geometry) (n : Name) (d : List ℕ) (s : HostSide) (h : AllHold (s
       }
   step (readsSector i j) z =
       let k = HostCall.readsSector (held-slice i) j in
-      let q = every-host-call g d k .hands z in
+      let q = handed-over g d k z in
       let e : handleAt hs i ≡ handleOf (held-slice i) = at-is (s .handles) i in
       record {
         number = number-by k (ap (λ (y : Handle). Call.readsSector y j) e) z;
@@ -179,7 +179,7 @@ module _ (g : Geometry) (n : Name) (d : List ℕ) (s : HostSide) (h : AllHold (s
   step (writes a m i x) z =
       let k = HostCall.writes a m (held-slice i) x in
       let o = held-at h i in
-      let q = every-host-call g d k .hands z in
+      let q = handed-over g d k z in
       let e : handleAt hs i ≡ handleOf (held-slice i) = at-is (s .handles) i in
       record {
         number = number-by k (ap (λ (y : Handle). Call.writes a (modeOf m) y x) e) z;

@@ -163,7 +163,7 @@ told-listed g d i r s x y = by (ltb i (length (listed g d))) refl
 -- One call --------------------------------------------------------------------------------------------------------------------------
 
 module _ (g : Geometry) (d : List ℕ) where
-  as-stood : (d′ d″ : List ℕ) → d′ ≡ d → d″ ≡ d → SamePlain g d′ d″
+  pub as-stood : (d′ d″ : List ℕ) → d′ ≡ d → d″ ≡ d → SamePlain g d′ d″
   as-stood d′ d″ p q m = ap (λ (e : List ℕ). hush (plain g e m)) (p ∙ sym q)
 
   accepted : AreBytes d → (c : Call) (s s′ : Said c) → Serves g d c s → Serves g d c s′

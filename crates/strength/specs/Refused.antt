@@ -1,5 +1,7 @@
--- The four programs of 01's last section do not meet the statements, each by the promise that 01 names: a disk and calls that show it.
+-- The four programs of 01's last section do not meet the statements, each by the promise that 01 names: a disk and calls that show it. Each is
+-- refused by what it says of those calls, whoever says it and through whatever door.
 use mathlib.Core.Path.{_≡_, refl, sym, ap, _∙_}
+use mathlib.Core.Logic.{_≢_}
 use mathlib.Core.List.{List, [], _∷_, _++_}
 use Prim.Native.Nat.{ℕ}
 use native.Mathlib.Omega.{arith}
@@ -16,7 +18,7 @@ use Rattle.promises.specs.Said.{Said}
 use Rattle.promises.specs.Promises
 use Rattle.promises.specs.Promises.{Promised, matching}
 use Rattle.promises.specs.Kept.{every-call}
-use Rattle.strength.specs.Programs.{Program, Meets, RefusesAll, AlwaysAlike, ChangesNothing, FirstOnly}
+use Rattle.strength.specs.Programs.{Program, Meets, RefusesAll, AlwaysAlike, ChangesNothing, FirstOnly, ofCalls}
 use Rattle.strength.specs.Fixed.{one-number, one-file, there-or-not}
 
 -- `numbers`: each number exactly in its case. So the number is the one that the definitions give, whoever says it.
@@ -28,15 +30,17 @@ served : number three sample checks ≡ 0
 unfolding opened number
 served = refl
 
-pub refuses-all : (p : Program) → Meets p → RefusesAll p → ⊥
-refuses-all p m r =
-    r three sample checks (numbered three sample checks (p three sample (checks ∷ []) .0) (m three sample (checks ∷ []) .0) ∙ served)
+pub check-refused : (s : Said checks) → Promised three sample checks s → s .number′ ≢ 0 → ⊥
+check-refused s x r = r (numbered three sample checks s x ∙ served)
+
+pub refuses-all : (p : Program ofCalls) → Meets ofCalls p → RefusesAll ofCalls p → ⊥
+refuses-all p m r = check-refused (p three sample (checks ∷ []) .0) (m three sample (checks ∷ []) .0) (r three sample checks)
 
 -- Answers always alike: `Reads` says which bytes. Two bytes of one file differ.
-abbrev from : ℕ → Handle
+abbrev pub from : ℕ → Handle
 from i = held 0xa3 puls i 1 0
 
-abbrev byteAt : ℕ → Call
+abbrev pub byteAt : ℕ → Call
 byteAt i = reads oneRecord (from i) (0 ∷ [])
 
 first-read : number three sample (byteAt 255) ≡ 0
@@ -59,45 +63,54 @@ second-byte : take 1 (drop 256 (fileAt three sample 0xa3 .bytes)) ≡ 0x44 ∷ [
 unfolding opened
 second-byte = refl
 
-pub always-alike : (p : Program) → Meets p → AlwaysAlike p → ⊥
-always-alike p m r =
-    let c = byteAt 255 in let s = p three sample (c ∷ []) .0 in let x = m three sample (c ∷ []) .0 in
-    let c′ = byteAt 256 in let s′ = p three sample (c′ ∷ []) .0 in let x′ = m three sample (c′ ∷ []) .0 in
-    let v = x .serves (numbered three sample c s x ∙ first-read) .1 in
-    let w = x′ .serves (numbered three sample c′ s′ x′ ∙ second-read) .1 in
+pub reads-alike : (s : Said (byteAt 255)) (s′ : Said (byteAt 256)) → Promised three sample (byteAt 255) s → Promised three sample (byteAt 256) s′
+    → s .answer .1 ≡ s′ .answer .1 → ⊥
+reads-alike s s′ x x′ r =
+    let v = x .serves (numbered three sample (byteAt 255) s x ∙ first-read) .1 in
+    let w = x′ .serves (numbered three sample (byteAt 256) s′ x′ ∙ second-read) .1 in
     let a : s .answer .1 ≡ 0x43 ∷ [] =
     v .buffer ∙ ap (λ (f : File). take 1 (drop 255 (f .bytes)) ++ []) (one-file (v .called) file-there) ∙ ap (λ (b : List ℕ). b ++ []) first-byte in
     let b : s′ .answer .1 ≡ 0x44 ∷ [] =
     w .buffer ∙ ap (λ (f : File). take 1 (drop 256 (f .bytes)) ++ []) (one-file (w .called) file-there) ∙ ap (λ (b : List ℕ). b ++ []) second-byte in
-    let z : _≡_ {A = ℕ} 0x43 0x44 =
-    ap (λ (b : List ℕ). getD b 0 0) (sym a ∙ r three sample oneRecord (from 255) (from 256) (0 ∷ []) refl ∙ b) in
+    let z : _≡_ {A = ℕ} 0x43 0x44 = ap (λ (b : List ℕ). getD b 0 0) (sym a ∙ r ∙ b) in
     omega arith
 
+pub always-alike : (p : Program ofCalls) → Meets ofCalls p → AlwaysAlike p → ⊥
+always-alike p m r =
+    reads-alike (p three sample (byteAt 255 ∷ []) .0) (p three sample (byteAt 256 ∷ []) .0)
+    (m three sample (byteAt 255 ∷ []) .0) (m three sample (byteAt 256 ∷ []) .0) (r three sample oneRecord (from 255) (from 256) (0 ∷ []) refl)
+
 -- Changes nothing: it satisfies the interleaving rule, but `Changes` says what a kill leaves: no file of that name.
-abbrev killing : Call
-killing = kills (held 0xa3 puls 0 256 1)
+abbrev pub toKill : Handle
+toKill = held 0xa3 puls 0 256 1
+
+abbrev pub killing : Call
+killing = kills toKill
 
 killed : number three sample killing ≡ 0
 unfolding opened number
 killed = refl
 
-pub changes-nothing : (p : Program) → Meets p → ChangesNothing p → ⊥
-changes-nothing p m r =
-    let s = p three sample (killing ∷ []) .0 in let x = m three sample (killing ∷ []) .0 in
+pub kill-unchanged : (s : Said killing) → Promised three sample killing s → s .image ≡ sample → ⊥
+kill-unchanged s x r =
     let v = x .serves (numbered three sample killing s x ∙ killed) .becomes in
-    there-or-not (v .before) (sym (ap (λ (d : List ℕ). plain three d puls) (r three sample killing)) ∙ v .after)
+    there-or-not (v .before) (sym (ap (λ (d : List ℕ). plain three d puls) r) ∙ v .after)
+
+pub changes-nothing : (p : Program ofCalls) → Meets ofCalls p → ChangesNothing ofCalls p → ⊥
+changes-nothing p m r = kill-unchanged (p three sample (killing ∷ []) .0) (m three sample (killing ∷ []) .0) (r three sample killing)
 
 -- Serves the first call and fakes the others: the promises hold from each state reached. After a kill the file is gone, so no second one is
 -- accepted, whatever image the program has left.
-pub first-only : (p : Program) → Meets p → FirstOnly p → ⊥
+pub killed-twice : (s s′ : Said killing) → Promised three sample killing s → Promised three (s .image) killing s′ → s′ .number′ ≡ 0 → ⊥
+killed-twice s s′ x y r =
+    there-or-not (y .serves r .becomes .before) (x .serves (numbered three sample killing s x ∙ killed) .becomes .after)
+
+pub first-only : (p : Program ofCalls) → Meets ofCalls p → FirstOnly ofCalls p → ⊥
 first-only p m r =
-    let cs = killing ∷ killing ∷ [] in
-    let s = p three sample cs .0 in let x = m three sample cs .0 in let y = m three sample cs .1 .0 in
-    let v = x .serves (numbered three sample killing s x ∙ killed) .becomes in
-    let w = y .serves (r three sample killing (killing ∷ []) .0) .becomes in
-    there-or-not (w .before) (v .after)
+    let q = p three sample (killing ∷ killing ∷ []) in let k = m three sample (killing ∷ killing ∷ []) in
+    killed-twice (q .0) (q .1 .0) (k .0) (k .1 .0) (r three sample killing (killing ∷ []) .0)
 
 -- An invented comparison count falls to the look-up rule: so many slots up to the one told have the hash.
-pub count-fixed : (p : Program) → Meets p → (g : Geometry) (d n : List ℕ) → p g d (looksUp n ∷ []) .0 .number′ ≡ 0
+pub count-fixed : (p : Program ofCalls) → Meets ofCalls p → (g : Geometry) (d n : List ℕ) → p g d (looksUp n ∷ []) .0 .number′ ≡ 0
     → p g d (looksUp n ∷ []) .0 .answer .compared ≡ matching g d (fold n) (p g d (looksUp n ∷ []) .0 .answer .slot)
 count-fixed p m g d n e = m g d (looksUp n ∷ []) .0 .serves e .1 .compared
