@@ -122,7 +122,7 @@ module _ (u : Kinds) (g : Geometry) (d d′ : List ℕ) (a : ReadAlike u g d d�
 
   -- What calls test ---------------------------------------------------------------------------------------------------------
 
-  diskRefusals-same : diskRefusals g d ≡ diskRefusals g d′
+  pub diskRefusals-same : diskRefusals g d ≡ diskRefusals g d′
   diskRefusals-same =
       λ i rest. (1, not (Reads.fits-same u g d d′ a i)) ∷ (byNumber (Reads.fault-same u g d d′ a i .number) faultNumbers ++ rest)
 
@@ -667,14 +667,14 @@ module _ (u : Kinds) (g : Geometry) (d d′ : List ℕ) (a : ReadAlike u g d d�
 
   -- Listing, counts, free space -----------------------------------------------------------------------------------------------
 
-  listed-same : listed g d ≡ listed g d′
+  pub listed-same : listed g d ≡ listed g d′
   unfolding listed shown
   listed-same =
       Members.keep-eq (λ p. not (system g d p)) (λ p. not (system g d′ p)) (files g d)
       (λ p j. ap (λ (y : ℕ). not (bit 6 y)) (file-bytes p (Facts.files-in g d p j) .flags))
       ∙ (λ i. keep (λ p. not (system g d′ p)) (Reads.files-same u g d d′ a i))
 
-  listed-files : (k p : ℕ) → In p (drop k (listed g d)) → IsFile g d p
+  pub listed-files : (k p : ℕ) → In p (drop k (listed g d)) → IsFile g d p
   unfolding listed
   listed-files k p i = Facts.files-in g d p (Members.keep-in (shown g d) p (files g d) (dropped k (listed g d) i) .0)
     where
@@ -683,7 +683,7 @@ module _ (u : Kinds) (g : Geometry) (d d′ : List ℕ) (a : ReadAlike u g d d�
       dropped (suc n) [] j = j
       dropped (suc n) (y ∷ xs) j = Members.In.there (dropped n xs j)
 
-  tellFirst-same : Sound g d → (ps : List ℕ) → ((p : ℕ) → In p ps → IsFile g d p) → tellFirst g d ps ≡ tellFirst g d′ ps
+  pub tellFirst-same : Sound g d → (ps : List ℕ) → ((p : ℕ) → In p ps → IsFile g d p) → tellFirst g d ps ≡ tellFirst g d′ ps
   unfolding tellFirst
   tellFirst-same c [] f = refl
   tellFirst-same c (p ∷ ps) f =
