@@ -6,3 +6,4 @@ pub mod Numbers
 pub mod Agree
 pub mod Compares
 pub mod Promised
+pub mod Listed
