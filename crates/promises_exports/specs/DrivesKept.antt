@@ -323,7 +323,8 @@ module _ (p : Pair) where
           λ u. rw e (ap (λ (r : DriveCreated × List ℕ × List ℕ). r .0 .refusal .number) (no-drive k u .creates n v checking)),
         ),
         λ e. (
-          λ z. said-on t c _ (rw e (ap (creates b) (every-search p z .creates k n v checking ∙ drives.every-number p t (takes-drive p n) .creates n v checking))),
+          λ z. said-on t c _ (rw e
+              (ap (creates b) (every-search p z .creates k n v checking ∙ drives.every-number p t (takes-drive p n) .creates n v checking))),
           λ z. rw e (ap (λ (r : DriveCreated × List ℕ × List ℕ). r .0 .refusal .number) (every-test p .creates z k n v checking)),
         ),
       )

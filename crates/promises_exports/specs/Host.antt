@@ -7,13 +7,17 @@ use mathlib.Core.Logic.{_≢_}
 use mathlib.Core.Bool.{Bool, true, false, cond}
 use mathlib.Core.List.{List, [], _∷_, _++_}
 use lib.Dec.{ltb}
-use lib.ListN.{length, take, drop, replicate}
+use lib.ListN.{length, getD, take, drop, replicate}
 use Rattle.meaning.specs.Amount.{Amount, oneRecord, wholeBuffer, howMany}
+use Rattle.meaning.specs.Lists.{In}
+use Rattle.meaning.specs.Refusal.{placed}
+use Rattle.meaning.specs.Refusals.{faultNumbers}
 use Rattle.meaning.specs.Calls.{Call}
 use Rattle.meaning.specs.declared.Geometry.{Geometry}
 use Rattle.meaning.specs.declared.NewFile.{NewFile}
 use Rattle.promises.specs.Said.{Said}
 use Rattle.promises.specs.Promises.{Brings, Good, Stays, Promised, Table, Exactly, table, diskCases}
+use Rattle.promises_fault.specs.Statement.{FaultIs}
 use Rattle.genie_codec.specs.Codec.{handleBytes, nameBytes, handleOf}
 use Rattle.genie_codec.specs.Words.{modeOf}
 use Rattle.genie.specs.Exports as exports
@@ -207,6 +211,8 @@ pub record HostPromised (g : Geometry) (d : List ℕ) (c : HostCall) (l : LeftTo
 pub record HostPromise (g : Geometry) (d : List ℕ) (c : HostCall) (l : LeftToHost) : Type 0 where
   pub is : l ≡ leftBy g d c
   pub promised : HostPromised g d c l
+  -- with a fault's number goes its slot (02 §2)
+  pub fault : tooShort c ≡ false → In (l .number) faultNumbers → FaultIs g d (placed (l .number) (getD (l .told) 0 0))
 
 abbrev pub EveryHostCall : Type 0
 EveryHostCall = (g : Geometry) (d : List ℕ) (c : HostCall) → HostPromise g d c (leftBy g d c)

@@ -6,3 +6,4 @@ pub mod Others
 pub mod OthersKept
 pub mod DrivesKept
 pub mod SectorLent
+pub mod ProgramRead

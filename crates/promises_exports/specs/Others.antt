@@ -1,18 +1,21 @@
 -- The exports whose calls are none of demand 2's thirteen: the check of a name, bring back, play back, the listing in one call, compare, load record, and
 -- those over two drives. Of each: all that goes out is what its contract fixes, its number is 0 or one of its table, under any other than 0 every
 -- slice that it was lent is as it stood (an opened handle's: zeros, and behind them as it stood), and what it does is what is promised of its call.
-use Prim.Native.Nat.{ℕ, _+_, _*_, _≤_, _<_}
+use Prim.Native.Nat.{ℕ, zero, suc, _+_, _*_, _≤_, _<_}
 use mathlib.Core.Path.{_≡_}
 use mathlib.Core.Logic.{_≢_}
 use mathlib.Core.Bool.{Bool, true, false, cond}
 use mathlib.Core.List.{List, [], _∷_, _++_}
+use lib.Dec.{eqb}
 use lib.ListN.{length, getD, take, drop, replicate}
 use lib.Seq.{sets}
 use Rattle.meaning.specs.Names.{fold}
 use Rattle.meaning.specs.Amount.{oneRecord}
 use Rattle.meaning.specs.Refusal.{placed}
+use Rattle.meaning.specs.Refusals.{faultNumbers}
 use Rattle.meaning.specs.Listing.{listed, list}
 use Rattle.meaning.specs.Calls.{Call}
+use Rattle.meaning.specs.Plain.{File, found, plain}
 use Rattle.meaning.specs.declared.Geometry.{Geometry}
 use Rattle.meaning.specs.declared.NewFile.{NewFile}
 use Rattle.lists.specs.Members.{In}
@@ -20,6 +23,7 @@ use Rattle.promises_words.specs.Given.{AreBytes}
 use Rattle.promises.specs.Said.{Said}
 use Rattle.promises.specs.Promises.{Good, Stays, Table, Exactly, diskCases, badName, BadAt, Promised}
 use Rattle.promises_back.specs.Statement.{backTable, BackPromised}
+use Rattle.promises_fault.specs.Statement.{FaultIs}
 use Rattle.play_trace.specs.Bits.{bits}
 use Rattle.play_trace.specs.Reading.{Trace}
 use Rattle.play_session.specs.Playing.{played}
@@ -30,6 +34,9 @@ use Rattle.list_rows.specs.Rows.{rowBytes, rowOf}
 use Rattle.promises_rows.specs.Numbers.{rowsCases}
 use Rattle.differences.specs.declared.Difference.{Difference}
 use Rattle.promises_compare.specs.Statement.{Both, many, Compares, Refuses}
+use Rattle.load.specs.Records.{dataCode, startCode, fileEnds}
+use Rattle.load.specs.Cut.{Pieces, starts, breaks, ending, onto, cut}
+use Rattle.promises_load.specs.Statement.{Admitted}
 use Rattle.promises_load.specs.Numbers.{loadCases}
 use Rattle.drives.specs.Pair.{Pair, geometry, image, leaving, tested, answered}
 use Rattle.drives.specs.ByName.{lookedUpOn, openedOn, createdOn, searched, passedOver, takes}
@@ -72,7 +79,8 @@ module _ (g : Geometry) (d : List ℕ) where
   abbrev pub BroughtBackBy : ℕ → ℕ × ℕ × ℕ × ℕ × List ℕ → Type 0
   BroughtBackBy s x =
       ExportFixed x (exportedBringBack g d s) (x .0) (rowsOf (backTable g d s)) (x .4 ∷ []) (d ∷ [])
-      (BackPromised g d s (record { refusal = placed (x .0) (x .1); slots = x .2; granules = x .3 }) (x .4))
+      (BackPromised g d s (record { refusal = placed (x .0) (x .1); slots = x .2; granules = x .3 }) (x .4)
+      × (In (x .0) faultNumbers → FaultIs g d (placed (x .0) (x .1))))
 
   -- play back (promises_session: PlayPromise), the trace of bytes
   pub record PlaysBack (t rs : List ℕ) (x : ℕ × ℕ × ℕ × ℕ × ℕ × List ℕ × List ℕ) : Type 0 where
@@ -114,6 +122,21 @@ module _ (g : Geometry) (d : List ℕ) where
       ExportFixed x (exportedLoadRecord g d b buffer) (x .0) (rowsOf (loadCases g d (handleOf b) (length buffer))) (x .6 ∷ x .7 ∷ []) (b ∷ buffer ∷ [])
       (handleBytes ≤ length b → Exactly (x .0) (loadCases g d (handleOf b) (length buffer)))
 
+  -- load record asked n times at the most, with the bytes that the last call left, until no data record is told
+  unfoldable pub loadedFrom : ℕ → List ℕ → List ℕ → Pieces
+  loadedFrom zero b buffer = ending (breaks fileEnds (handleOf b .at))
+  loadedFrom (suc n) b buffer =
+      let x = exportedLoadRecord g d b buffer in
+      cond (eqb (x .2) dataCode)
+      (onto (record { address = x .3; bytes = take (x .4) (x .7) }) (loadedFrom n (x .6) (x .7)))
+      (ending (cond (eqb (x .2) startCode) (starts (x .3)) (breaks (x .0) (x .5))))
+
+-- Asked so from place 0 on it hands out the records of the plain file, cut, and then tells its end (promises_load: EveryProgram).
+abbrev pub EveryHostProgram : Type 0
+EveryHostProgram =
+    (g : Geometry) (d b buffer : List ℕ) (f : File) → AreBytes b → handleBytes ≤ length b → Admitted g d (handleOf b) buffer → handleOf b .at ≡ 0
+    → plain g d (handleOf b .name) ≡ found f → loadedFrom g d (suc (length (f .bytes))) b buffer ≡ cut (f .bytes)
+
 -- Over two drives (02 §9): 16 beside the numbers of the call on one image
 abbrev pub numbersOn : Call → List ℕ
 numbersOn c = numbers c ++ (16 ∷ [])
@@ -152,7 +175,8 @@ module _ (p : Pair) where
   abbrev pub OpenedOn : Bool → ℕ → List ℕ → ℕ → Bool → ℕ → List ℕ → ℕ × ℕ × ℕ × ℕ × List ℕ → Type 0
   OpenedOn numbered k n len checking code b x =
       ExportFixed x (drivesOpen p numbered k n len checking code b) (x .0) (numbersOn (Call.opens n len checking code)) (x .4 ∷ []) (zeroedOn b ∷ [])
-      (ByName (x .0) numbered k (searched p n) (Call.opens n (drives-codec.lengthFor b len) checking code) (λ j s. x ≡ exports.opens b (openedOn j (s .answer))))
+      (ByName (x .0) numbered k (searched p n) (Call.opens n (drives-codec.lengthFor b len) checking code)
+      (λ j s. x ≡ exports.opens b (openedOn j (s .answer))))
 
   abbrev pub CreatedOn : Bool → ℕ → List ℕ → NewFile → Bool → List ℕ → ℕ × ℕ × ℕ × ℕ × ℕ × List ℕ × List ℕ × List ℕ → Type 0
   CreatedOn numbered k n f checking b x =

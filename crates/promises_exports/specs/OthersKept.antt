@@ -41,7 +41,8 @@ use Rattle.genie.specs.Table.{exportedListFrom}
 use Rattle.genie.specs.Compared.{exportedCompare, tellsDifference}
 use Rattle.genie.specs.Program.{exportedLoadRecord, tellsRecord}
 use Rattle.promises_numbers.specs.Statement.{rowsOf}
-use Rattle.promises_exports.specs.Proved.{numbered-by, numbered}
+use Rattle.promises_fault.specs.Kept.{every-fault}
+use Rattle.promises_exports.specs.Proved.{numbered-by, numbered, fault-placed}
 use Rattle.promises_exports.specs.Others.{ExportFixed, nameTable, NameTold, NameChecked, BroughtBackBy, PlaysBack, PlayedBack, ListedFrom, ComparedWith}
 use Rattle.promises_exports.specs.Others.{RecordLoaded}
 
@@ -107,7 +108,10 @@ module _ (g : Geometry) (d : List ℕ) where
         is = refl;
         numbered = numbered-by (backTable g d s) (bringBack g d s .0 .refusal .number) (p .numbers);
         refuses = λ z. ap (λ (x : List ℕ). x ∷ []) (p .refuses z .0);
-        does = record { stays = p .stays; serves = p .serves; refuses = p .refuses; numbers = p .numbers };
+        does = (
+          record { stays = p .stays; serves = p .serves; refuses = p .refuses; numbers = p .numbers },
+          λ i. fault-placed g d (every-fault g d .back s i),
+        );
       }
 
   plays-back : (t rs : List ℕ) → AreBytes t → PlaysBack g d t rs (exportedPlay g d t rs)

@@ -1,17 +1,20 @@
 -- What is promised of a host's call is so: where the slice is long enough the call is that of demand 2 (promises: Kept), with the handle that its bytes
 -- hold; where it is too short, 1, a fault's number or 12 is told, and nothing is touched.
-use Prim.Native.Nat.{ℕ}
+use Prim.Native.Nat.{ℕ, _≤_}
 use mathlib.Core.Path.{_≡_, refl, sym, ap, subst, _∙_}
 use mathlib.Core.Logic.{_≢_, _⊎_, inl, inr}
 use mathlib.Core.Bool.{Bool, true, false, not, cond}
 use mathlib.Core.List.{List, [], _∷_}
+use native.Mathlib.Omega.{arith}
 use native.Mathlib.Decide.{ℕ-discrete}
 use lib.Dec.{T}
 use lib.ListN.{length, getD}
 use lib.Seq.{sets}
 use borrow.Author.Tests.{eq-eqb, ne-eqb, ltb-false}
 use Rattle.meaning.specs.Amount.{oneRecord, wholeBuffer, howMany}
-use Rattle.meaning.specs.Refusals.{first, diskRefusals}
+use Rattle.meaning.specs.Refusal.{placed, slotTold}
+use Rattle.meaning.specs.Refusals.{first, diskRefusals, faultNumbers}
+use Rattle.meaning.specs.Fault.{fault}
 use Rattle.meaning.specs.LookUp.{lookUp}
 use Rattle.meaning.specs.Open.{open′}
 use Rattle.meaning.specs.Create.{create}
@@ -22,14 +25,18 @@ use Rattle.meaning.specs.FreeSpace.{freeSpace}
 use Rattle.meaning.specs.Calls.{Call, number, leaves}
 use Rattle.meaning.specs.declared.Geometry.{Geometry}
 use Rattle.meaning.specs.declared.Listed.{Listed}
+use Rattle.meaning.specs.declared.Refusal.{Refusal}
 use Rattle.lists.specs.Tests.{first-at}
-use Rattle.lists.specs.Members.{In}
+use Rattle.lists.specs.Members.{In, in-cons, none-in, count-in}
 use Rattle.promises.specs.Said.{says}
 use Rattle.promises.specs.Promises.{Stays, Refuses, Table, Rows, Exactly, table, diskCases}
 use Rattle.promises.specs.Refusing.{exactly, disk-reading}
 use Rattle.promises.specs.Staying.{stays-same}
 use Rattle.promises.specs.Kept.{every-call, every-write, stays-after}
 use Rattle.promises_numbers.specs.Statement.{rowsOf}
+use Rattle.promises_numbers.specs.Kept.{every-number}
+use Rattle.promises_fault.specs.Statement.{FaultIs, length′, slot, granule, sound}
+use Rattle.promises_fault.specs.Kept.{every-fault}
 use Rattle.genie_codec.specs.Codec.{handleBytes, handleOf, stored, HandleFits}
 use Rattle.genie_codec.specs.Words.{modeOf, told}
 use Rattle.genie_codec.proofs.Fitting.{open-fits, create-fits, read-fits, write-fits}
@@ -351,9 +358,68 @@ module _ (g : Geometry) (d : List ℕ) where
         said = λ f. absurd (no-truth (sym f ∙ e));
       }
 
+-- The slot that goes with a fault's number ------------------------------------------------------------------------------------------------------
+
+module _ (g : Geometry) (d : List ℕ) where
+  -- a fault is a number with a slot or none, and names no image
+  alone : {r : Refusal} → FaultIs g d r → FaultIs g d (placed (r .number) (r .at))
+  alone (length′ a) = length′ a
+  alone (slot s k a b c e) = slot s k a b c e
+  alone (granule n a b c e) = granule n a b c e
+  alone (sound a b c) = sound a b c
+
+  pub fault-placed : {r : Refusal} → r ≡ fault g d → FaultIs g d (placed (r .number) (r .at))
+  fault-placed e = alone (subst (FaultIs g d) (sym e) (every-fault g d .told))
+
+  at-least : (n : ℕ) → In n faultNumbers → 21 ≤ n
+  at-least n i = count-in n 21 10 i .0
+
+  -- a call by name tells the slot beside the place
+  by-name : (r : Refusal) → In (r .number) faultNumbers → r ≡ fault g d → FaultIs g d (placed (r .number) (slotTold r))
+  unfolding slotTold
+  by-name r i e = rw (ne-eqb (r .number) 3 (λ z. omega (arith, z, at-least (r .number) i))) (fault-placed e)
+
+  -- free space looks at no fault
+  none-of : In (number g d Call.measures) faultNumbers → ⊥
+  none-of i = by (in-cons (every-number g d Call.measures .one-of))
+    where
+      n : ℕ
+      n = number g d Call.measures
+
+      one : (n ≡ 1) ⊎ In n [] → ⊥
+      one (inl e) = omega (arith, e, at-least n i)
+      one (inr j) = none-in j
+
+      by : (n ≡ 0) ⊎ In n (1 ∷ []) → ⊥
+      by (inl e) = omega (arith, e, at-least n i)
+      by (inr j) = one (in-cons j)
+
+  fault-out : (c : HostCall) → In (number g d (callOf c)) faultNumbers → let l = goesOut c (says g d (callOf c)) in
+      FaultIs g d (placed (l .number) (getD (l .told) 0 0))
+  unfolding number moves tells
+  fault-out checks i = fault-placed (every-fault g d .handed Call.checks i)
+  fault-out (looksUp n) i = by-name _ i (every-fault g d .handed (Call.looksUp n) i)
+  fault-out (opens n len checking code b) i = by-name _ i (every-fault g d .handed (Call.opens n len checking code) i)
+  fault-out (creates n f checking b) i = by-name _ i (every-fault g d .handed (Call.creates n f checking) i)
+  fault-out (reads a b x) i = fault-placed (every-fault g d .handed (Call.reads a (handleOf b) x) i)
+  fault-out (readsSector b k) i = fault-placed (every-fault g d .handed (Call.readsSector (handleOf b) k) i)
+  fault-out (writes a m b x) i = fault-placed (every-fault g d .handed (Call.writes a (modeOf m) (handleOf b) x) i)
+  fault-out (allots b k) i = fault-placed (every-fault g d .handed (Call.allots (handleOf b) k) i)
+  fault-out (trims b) i = fault-placed (every-fault g d .handed (Call.trims (handleOf b)) i)
+  fault-out (kills b) i = fault-placed (every-fault g d .handed (Call.kills (handleOf b)) i)
+  fault-out (lists j b) i = fault-placed (every-fault g d .handed (Call.lists j) i)
+  fault-out counts i = fault-placed (every-fault g d .handed Call.counts i)
+  fault-out measures i = absurd (none-of i)
+
+  with-fault : (c : HostCall) → tooShort c ≡ false → In (leftBy g d c .number) faultNumbers
+      → FaultIs g d (placed (leftBy g d c .number) (getD (leftBy g d c .told) 0 0))
+  with-fault c e i =
+      subst (λ (l : LeftToHost). FaultIs g d (placed (l .number) (getD (l .told) 0 0))) (sym (out-is g d c e))
+      (fault-out c (subst (λ (n : ℕ). In n faultNumbers) (number-is g d c e) i))
+
 -- demands 1 and 2, of every call that a host makes
 pub every-host-call : EveryHostCall
-every-host-call g d c = record { is = refl; promised = by (tooShort c) refl }
+every-host-call g d c = record { is = refl; promised = by (tooShort c) refl; fault = with-fault g d c }
   where
     by : (t : Bool) → tooShort c ≡ t → HostPromised g d c (leftBy g d c)
     by true e = of-short g d c e
