@@ -62,7 +62,7 @@ module _ (g : Geometry) (n : Name) (d : List ℕ) (s : Side) (held : Held (fold 
   passes : first (loadRefusals g d h (length b)) ≡ 0
   passes = unfold loadRecord in l .1
 
-  called : plain g d (fold n) ≡ found (fileAt g d (h .slot))
+  pub called : plain g d (fold n) ≡ found (fileAt g d (h .slot))
   called =
       let own = notForReading h ∷ byNumber (asked g d h .number) loadNumbers in
       let w = Passing.handle-passed g d h (all (inRange g h ∷ leb mostBytes (length b) ∷ [])) own passes .0 in

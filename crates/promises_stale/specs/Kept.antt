@@ -1,21 +1,24 @@
 -- The theorem to the type of `Statement`: a file that its list created has, at every turn, no byte that is neither 0 nor written by the list.
 use mathlib.Core.Path.{_≡_, refl, ap, sym, _∙_, subst}
 use mathlib.Core.Logic.{_≢_, _⊎_, inl, inr}
-use mathlib.Core.Bool.{Bool, true, false, not, cond}
-use mathlib.Core.List.{List, [], _∷_, _++_, map}
+use mathlib.Core.Bool.{Bool, false, not, cond}
+use mathlib.Core.List.{List, [], _∷_, _++_}
 use Prim.Native.Nat.{ℕ, zero, suc, _+_, _-_, _*_, _≤_}
 use native.Mathlib.Omega.{arith}
-use lib.Dec.{T, T-not}
-use lib.ListN.{length, getD, set, take, drop, replicate, List·getD-map}
+use native.Mathlib.Decide.{ℕ-discrete}
+use lib.Dec.{T, T-not, ltb}
+use lib.ListN.{length, getD, set, take, drop, replicate, length-drop, take-append-drop, List·getD-map}
 use lib.Seq.{slice}
+use borrow.Author.Tests.{ne-eqb}
+use Rattle.meaning.specs.Lists.{first}
 use Rattle.meaning.specs.Bits.{digit}
 use Rattle.meaning.specs.Names.{fold}
 use Rattle.meaning.specs.Handles.{noHandle}
-use Rattle.meaning.specs.Amount.{Amount, howMany}
-use Rattle.meaning.specs.Calls.{Call, number, leaves}
+use Rattle.meaning.specs.Amount.{howMany}
+use Rattle.meaning.specs.Calls.{number}
 use Rattle.meaning.specs.Read.{readOf, readSector}
 use Rattle.meaning.specs.Write.{sizeAfter}
-use Rattle.meaning.specs.Plain.{File, Found, found, nothing, plain, isSystem, bornAs, overwritten, writtenTo, allottedTo, trimmed}
+use Rattle.meaning.specs.Plain.{File, Found, found, nothing, fileAt, plain, isSystem, bornAs, overwritten, writtenTo, allottedTo, trimmed}
 use Rattle.meaning.specs.declared.Geometry.{Geometry}
 use Rattle.meaning.specs.declared.Handle.{Handle}
 use Rattle.meaning.specs.declared.NewFile.{NewFile}
@@ -24,35 +27,31 @@ use Rattle.promises_words.specs.Given.{AreBytes}
 use Rattle.promises_words.specs.Untouched.{hush}
 use Rattle.lists.specs.Members
 use Rattle.lists.specs.Members.{In}
-use Rattle.promises.specs.Promises
 use Rattle.promises.specs.Sector
-use Rattle.promises.specs.Staying
 use Rattle.together.specs.Statement.{Name, Step, looksUp, opens, creates, moves, reads, readsSector, writes, allots, trims, kills}
 use Rattle.together.specs.Statement.{Brings, AllBring, known, answer, handleAt, manyBy, Grip, grip, Turn, one, two, Interleaving}
-use Rattle.together.specs.Statement.{none, left, right, World, start, next, Accepted}
+use Rattle.together.specs.Statement.{none, left, right, Side, World, start, next, Accepted}
 use Rattle.together.specs.State
 use Rattle.together.specs.State.{FileState, stands, stateOf, gripAt, changed, born, effect, Held}
 use Rattle.together.specs.Effects
 use Rattle.together.specs.Heard.{call-bytes}
 use Rattle.together.specs.Interleavings
-use Rattle.together.specs.Interleavings.{Fine, stateIn}
-use Rattle.promises_stale.specs.Statement.{handedBack, puts, Own, NoneStale, NothingStale}
+use Rattle.together.specs.Interleavings.{Fine}
+use Rattle.load.specs.Records.{toldAt, recordFrom, past}
+use Rattle.load.specs.Load.{asked, bytesOf, loadRefusals, loadRecord}
+use Rattle.load.specs.declared.Item.{Item}
+use Rattle.promises_load.specs.Cutting
+use Rattle.promises_load.specs.Cutting.{Seen}
+use Rattle.promises_load.specs.Interleaved.{called}
+use Rattle.promises_stale.specs.Statement.{handedBack, puts, Own, LoadsOwn, NoneStale, NothingStale}
 
 -- Parts of lists ------------------------------------------------------------------------------------------------------------------
 
 in-take : (n : ℕ) (xs : List ℕ) {x : ℕ} → In x (take n xs) → In x xs
-in-take zero xs i = Members.none-in i
-in-take (suc n) [] i = Members.none-in i
-in-take (suc n) (y ∷ xs) {x} i = go (Members.in-cons i) (in-take n xs)
-  where
-    go : (x ≡ y) ⊎ In x (take n xs) → (In x (take n xs) → In x xs) → In x (y ∷ xs)
-    go (inl e) r = Members.head-in xs e
-    go (inr j) r = Members.In.there (r j)
+in-take n xs {x} i = subst (λ (l : List ℕ). In x l) (take-append-drop n xs) (Members.in-append-l (drop n xs) i)
 
 in-drop : (n : ℕ) (xs : List ℕ) {x : ℕ} → In x (drop n xs) → In x xs
-in-drop zero xs i = i
-in-drop (suc n) [] i = i
-in-drop (suc n) (y ∷ xs) i = Members.In.there (in-drop n xs i)
+in-drop n xs {x} i = subst (λ (l : List ℕ). In x l) (take-append-drop n xs) (Members.in-append-r (take n xs) i)
 
 -- of the front of two lists that lies in the first
 in-front : (n : ℕ) (xs ys : List ℕ) {x : ℕ} → n ≤ length xs → In x (take n (xs ++ ys)) → In x xs
@@ -117,7 +116,7 @@ mine-whole ws f m =
 own-written : (ws : List ℕ) (m : Mode) (old : List ℕ) (i : ℕ) (r : List ℕ) → Own ws old → Own (ws ++ r) (overwritten m old i r)
 unfolding overwritten
 own-written ws m old i r o x k =
-    first (Members.append-in x (take i old ++ replicate (i - length old) 0) (r ++ drop (i + length r) old)
+    parts (Members.append-in x (take i old ++ replicate (i - length old) 0) (r ++ drop (i + length r) old)
     (in-take (sizeAfter m (length old) (i + length r)) ((take i old ++ replicate (i - length old) 0) ++ (r ++ drop (i + length r) old)) k))
   where
     before : In x (take i old) ⊎ In x (replicate (i - length old) 0) → (x ≡ 0) ⊎ In x (ws ++ r)
@@ -128,9 +127,9 @@ own-written ws m old i r o x k =
     behind (inl j) = inr (Members.in-append-r ws j)
     behind (inr j) = own-more ws r o x (in-drop (i + length r) old j)
 
-    first : In x (take i old ++ replicate (i - length old) 0) ⊎ In x (r ++ drop (i + length r) old) → (x ≡ 0) ⊎ In x (ws ++ r)
-    first (inl j) = before (Members.append-in x (take i old) (replicate (i - length old) 0) j)
-    first (inr j) = behind (Members.append-in x r (drop (i + length r) old) j)
+    parts : In x (take i old ++ replicate (i - length old) 0) ⊎ In x (r ++ drop (i + length r) old) → (x ≡ 0) ⊎ In x (ws ++ r)
+    parts (inl j) = before (Members.append-in x (take i old) (replicate (i - length old) 0) j)
+    parts (inr j) = behind (Members.append-in x r (drop (i + length r) old) j)
 
 first-kept : (l : List ℕ) (v : ℕ) → getD (set l 1 v) 0 0 ≡ getD l 0 0
 first-kept [] v = refl
@@ -182,9 +181,12 @@ module _ (g : Geometry) (n : Name) (d : List ℕ) (hs : List Handle) (ws : List 
 -- What a call hands back --------------------------------------------------------------------------------------------------------------
 
 module _ (g : Geometry) (n : Name) (d : List ℕ) (hs : List Handle) (held : Held (fold n) hs) (ws : List ℕ) (k : Mine ws (stands g d (fold n))) where
-  file-own : (h : Handle) (f : File) → h .name ≡ fold n → plain g d (h .name) ≡ found f → Own ws (f .bytes)
+  under-name : (f : File) → plain g d (fold n) ≡ found f → Own ws (f .bytes)
   unfolding stands
-  file-own h f e c = mine-whole ws f (subst (λ (x : Found). Mine ws (hush x)) (ap (plain g d) (sym e) ∙ c) k)
+  under-name f c = mine-whole ws f (subst (λ (x : Found). Mine ws (hush x)) c k)
+
+  file-own : (h : Handle) (f : File) → h .name ≡ fold n → plain g d (h .name) ≡ found f → Own ws (f .bytes)
+  file-own h f e c = under-name f (ap (plain g d) (sym e) ∙ c)
 
   read-own : (h : Handle) (m : ℕ) (b : List ℕ) → h .name ≡ fold n → readOf g d h m b .0 .refusal .number ≡ 0 → Own ws (take m (readOf g d h m b .1))
   read-own h m b e z x i =
@@ -201,6 +203,40 @@ module _ (g : Geometry) (n : Name) (d : List ℕ) (hs : List Handle) (held : Hel
       let bs = r .file .bytes in
       let m = subst (λ (l : List ℕ). In x l) (r .part) i in
       file-own h (r .file) e (r .called) x (in-drop (256 * j) bs (in-take 256 (drop (256 * j) bs) m))
+
+-- What a load read hands back -----------------------------------------------------------------------------------------------------------
+
+-- the record that is told stands in the file, whole
+told-inside : (bs : List ℕ) (i : ℕ) → recordFrom bs i .count ≤ length (drop (recordFrom bs i .from) bs)
+unfolding recordFrom toldAt
+told-inside bs i = let p = past bs (length bs) i in rw (length-drop (p + 4) bs) (by (Cutting.seen bs p))
+  where
+    by : {x : Item} → Seen bs (past bs (length bs) i) x → x .rest - 2 ≤ length bs - (past bs (length bs) i + 4)
+    by (Seen.broken t n) = omega arith
+    by (Seen.stands k o t) = omega arith
+
+module _ (g : Geometry) (n : Name) (d : List ℕ) (s : Side) (held : Held (fold n) (s .handles)) (ws : List ℕ) (k : Mine ws (stands g d (fold n))) where
+  -- what stands under the name is no system file
+  user : (f : File) → plain g d (fold n) ≡ found f → T (not (isSystem f))
+  unfolding stands hush
+  user f e = subst (λ (x : Found). Mine ws (hush x)) e k .0
+
+  load-own : (i : ℕ) (b : List ℕ) → T (ltb i (length (s .handles))) → let r = loadRecord g d (handleAt (s .handles) i) b in Own ws (take (r .0 .count) (r .1))
+  unfolding loadRecord
+  load-own i b t = by (ℕ-discrete (first (loadRefusals g d h (length b))) 0)
+    where
+      h : Handle
+      h = handleAt (s .handles) i
+
+      by : Dec (first (loadRefusals g d h (length b)) ≡ 0) → Own ws (take (loadRecord g d h b .0 .count) (loadRecord g d h b .1))
+      by (no z) = rw (ne-eqb (first (loadRefusals g d h (length b))) 0 z) (λ x j. Members.none-in j)
+      by (yes z) = rw z (λ x j.
+          let bs = bytesOf g d (h .slot) in
+          let r = asked g d h in
+          let m = in-front (r .count) (take (r .count) (drop (r .from) bs)) (drop (r .count) b)
+          (take-long (r .count) (drop (r .from) bs) (told-inside bs (h .at))) j in
+          let c = called g n d s held i b (t, z, user) in
+          under-name g n d (s .handles) held ws k (fileAt g d (h .slot)) c x (in-drop (r .from) bs (in-take (r .count) (drop (r .from) bs) m)))
 
 -- Turn by turn ----------------------------------------------------------------------------------------------------------------------
 
@@ -229,19 +265,25 @@ module _ (g : Geometry) (a b : Name) where
   back-own w ws k u m (trims j) t z = λ x i. Members.none-in i
   back-own w ws k u m (kills j) t z = λ x i. Members.none-in i
 
+  loads-own : (w : World) (ws : List ℕ) → Fine g a b w → Mine ws (stands g (w .disk) (fold a)) → LoadsOwn g a b ws w
+  loads-own w ws k m i buffer t = load-own g a (w .disk) (w .first) (k .first′) ws m i buffer t
+
   turns : fold a ≢ fold b → {xs ys : List Step} {zs : List Turn} → Interleaving xs ys zs → (ws : List ℕ) (w : World) → Fine g a b w → AreBytes (w .disk)
       → AllBring xs → AllBring ys → Accepted g a b w zs → Mine ws (stands g (w .disk) (fold a)) → NoneStale g a b ws w zs
-  turns ab none ws w k u p q t m = tt
+  turns ab none ws w k u p q t m = loads-own w ws k m
   turns ab (left {x = c} i) ws w k u p q t m = (
+    loads-own w ws k m,
     back-own w ws k u m c (t .0 .0) (t .0 .1),
     turns ab i (ws ++ puts (w .first .handles) c) (next g a b w (one c)) (Interleavings.fine-next g a b w (one c) k (t .0)) (first-bytes w c k u (p .0))
         (p .1) q (t .1)
         (subst (λ (o : FileState). Mine (ws ++ puts (w .first .handles) c) (o .file)) (sym (Interleavings.own-turn g a b w c k (t .0)))
         (mine-effect g (fold a) (w .disk) (w .first .handles) ws m c)),
   )
-  turns ab (right {y = c} i) ws w k u p q t m =
-      turns ab i ws (next g a b w (two c)) (Interleavings.fine-next g a b w (two c) k (t .0)) (second-bytes w c k u (q .0)) p (q .1) (t .1)
-      (subst (λ (o : FileState). Mine ws (o .file)) (sym (Interleavings.other-turn g a b ab w c k (t .0))) m)
+  turns ab (right {y = c} i) ws w k u p q t m = (
+    loads-own w ws k m,
+    turns ab i ws (next g a b w (two c)) (Interleavings.fine-next g a b w (two c) k (t .0)) (second-bytes w c k u (q .0)) p (q .1) (t .1)
+        (subst (λ (o : FileState). Mine ws (o .file)) (sym (Interleavings.other-turn g a b ab w c k (t .0))) m),
+  )
 
 pub nothing-stale : NothingStale
 unfolding State.Good stands hush

@@ -1,11 +1,13 @@
 -- Nothing stale is read. Killed and trimmed granules "become free and are used again" (01), with the bytes that stood in them. In a list of
 -- calls that created its file no call hands back any of those: every byte read is 0 or was written by that list before, whatever another list
--- does on the same disk in between. Nothing is proved here: `Kept` has the theorem. Lists, turns and worlds are those of demand 3 (`together`).
+-- does on the same disk in between. The same of load record (02 §12). Nothing is proved here: `Kept` has the theorem. Lists, turns and worlds are
+-- those of demand 3 (`together`).
 use mathlib.Core.Path.{_≡_}
 use mathlib.Core.Logic.{_≢_, _⊎_}
 use mathlib.Core.List.{List, [], _∷_, _++_}
 use Prim.Native.Nat.{ℕ}
-use lib.ListN.{take}
+use lib.Dec.{T, ltb}
+use lib.ListN.{length, take}
 use lib.Seq.{slice}
 use Rattle.meaning.specs.Lists.{In}
 use Rattle.meaning.specs.Names.{fold}
@@ -13,6 +15,7 @@ use Rattle.meaning.specs.Read.{readOf, readSector}
 use Rattle.meaning.specs.Plain.{nothing, plain}
 use Rattle.meaning.specs.declared.Geometry.{Geometry}
 use Rattle.meaning.specs.declared.Handle.{Handle}
+use Rattle.load.specs.Load.{loadRecord}
 use Rattle.promises.specs.Promises.{Good}
 use Rattle.together.specs.Statement.{Name, Step, looksUp, opens, creates, moves, reads, readsSector, writes, allots, trims, kills}
 use Rattle.together.specs.Statement.{handleAt, manyBy, Turn, one, two, Interleaving, World, start, next, Accepted, AllBring}
@@ -52,12 +55,20 @@ abbrev pub Own : List ℕ → List ℕ → Type 0
 Own written bytes = (x : ℕ) → In x bytes → (x ≡ 0) ⊎ In x written
 
 module _ (g : Geometry) (a b : Name) where
+  -- A load read leaves the disk, and of its handle all but where it stands, which `moves` may set to any place: so one may stand before every turn and
+  -- behind the last. Whichever it is, by a handle of the first list, the bytes that it hands back, so many at the start of the buffer, are such.
+  abbrev pub LoadsOwn : List ℕ → World → Type 0
+  LoadsOwn written w =
+      let hs = w .first .handles in (i : ℕ) (buffer : List ℕ) → T (ltb i (length hs)) → let r = loadRecord g (w .disk) (handleAt hs i) buffer in
+      Own written (take (r .0 .count) (r .1))
+
   -- turn by turn: what a call of the first list hands back is 0 or was written by that list before it
   abbrev pub NoneStale : List ℕ → World → List Turn → Type 0
-  NoneStale written w [] = Unit {0}
+  NoneStale written w [] = LoadsOwn written w
   NoneStale written w (one c ∷ zs) =
-      Own written (handedBack g (w .disk) (w .first .handles) c) × NoneStale (written ++ puts (w .first .handles) c) (next g a b w (one c)) zs
-  NoneStale written w (two c ∷ zs) = NoneStale written (next g a b w (two c)) zs
+      LoadsOwn written w × Own written (handedBack g (w .disk) (w .first .handles) c)
+      × NoneStale (written ++ puts (w .first .handles) c) (next g a b w (one c)) zs
+  NoneStale written w (two c ∷ zs) = LoadsOwn written w × NoneStale written (next g a b w (two c)) zs
 
 -- From a good disk that has no file of the first list's name: what stands under it from then on the list itself has created. In any
 -- interleaving in which every call is accepted it reads nothing stale. (The second list is any one that is on another file; it may be empty.)
