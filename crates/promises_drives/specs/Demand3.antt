@@ -38,7 +38,7 @@ pub record InDrive (k : ℕ) (g : Geometry) (put : List ℕ → Pair) : Type 0 w
   pub side : (d : List ℕ) (n : Name) (s : Side) (c : Step) → disk.answer g n d s c .number ≡ 0
       → answer (put d) k n (lift k s) c .side ≡ lift k (disk.answer g n d s c .side)
 
-on-0 : (g g′ : Geometry) (e : List ℕ) → InDrive 0 g (λ d. pair g d g′ e)
+pub on-0 : (g g′ : Geometry) (e : List ℕ) → InDrive 0 g (λ d. pair g d g′ e)
 on-0 g g′ e =
     record {
       image′ = λ d. refl;
@@ -48,7 +48,7 @@ on-0 g g′ e =
       side = λ d n s c. side-is (pair g d g′ e) 0 zeroth n s c;
     }
 
-on-1 : (g g′ : Geometry) (e : List ℕ) → InDrive 1 g′ (λ d. pair g e g′ d)
+pub on-1 : (g g′ : Geometry) (e : List ℕ) → InDrive 1 g′ (λ d. pair g e g′ d)
 on-1 g g′ e =
     record {
       image′ = λ d. refl;
@@ -74,14 +74,14 @@ module _ (k : ℕ) (g : Geometry) (put : List ℕ → Pair) (holds : InDrive k g
 
 module _ (k : ℕ) (g : Geometry) (put : List ℕ → Pair) (holds : InDrive k g put) (a b : Name) where
   -- the world of one disk, as the world of the drives
-  abbrev both : disk.World → DriveWorld
+  abbrev pub both : disk.World → DriveWorld
   both w = record { drives = put (w .disk); first = lift k (w .first); second = lift k (w .second) }
 
   turn-taken : (w : disk.World) (t : Turn) → Taken k k a b (both w) t → disk.Taken g a b w t
   turn-taken w (one c) t = step-taken k g put holds (w .disk) a (w .first) c t
   turn-taken w (two c) t = step-taken k g put holds (w .disk) b (w .second) c t
 
-  turn-next : (w : disk.World) (t : Turn) → Taken k k a b (both w) t → next k k a b (both w) t ≡ both (disk.next g a b w t)
+  pub turn-next : (w : disk.World) (t : Turn) → Taken k k a b (both w) t → next k k a b (both w) t ≡ both (disk.next g a b w t)
   turn-next w (one c) t =
       λ i. record {
         drives = step-drives k g put holds (w .disk) a (w .first) c t i;
@@ -95,7 +95,7 @@ module _ (k : ℕ) (g : Geometry) (put : List ℕ → Pair) (holds : InDrive k g
         second = step-side k g put holds (w .disk) b (w .second) c t i;
       }
 
-  all-taken : (zs : List Turn) (w : disk.World) → Accepted k k a b (both w) zs → disk.Accepted g a b w zs
+  pub all-taken : (zs : List Turn) (w : disk.World) → Accepted k k a b (both w) zs → disk.Accepted g a b w zs
   all-taken [] w t = tt
   all-taken (z ∷ zs) w t =
       (turn-taken w z (t .0), all-taken zs (disk.next g a b w z) (subst (λ (v : DriveWorld). Accepted k k a b v zs) (turn-next w z (t .0)) (t .1)))
@@ -140,23 +140,23 @@ same-grips k hs hs′ e = grips k hs ∙ ap (map (gripOn k)) e ∙ sym (grips k 
 -- Lists on two drives ----------------------------------------------------------------------------------------------------------------------
 
 -- a list by itself, as turns of its own disk alone
-abbrev alone : List Step → List Turn
+abbrev pub alone : List Step → List Turn
 alone [] = []
 alone (c ∷ cs) = one c ∷ alone cs
 
 module _ (k l : ℕ) (g h : Geometry) (put : List ℕ → List ℕ → Pair) (on-k : (e : List ℕ) → InDrive k g (λ d. put d e))
     (on-l : (d : List ℕ) → InDrive l h (put d)) (a b : Name) where
   -- the world of each list's disk, as the world of the drives
-  abbrev beside : disk.World → disk.World → DriveWorld
+  abbrev pub beside : disk.World → disk.World → DriveWorld
   beside u v = record { drives = put (u .disk) (v .disk); first = lift k (u .first); second = lift l (v .first) }
 
-  abbrev first-next : disk.World → Step → disk.World
+  abbrev pub first-next : disk.World → Step → disk.World
   first-next u c = disk.next g a a u (one c)
 
-  abbrev second-next : disk.World → Step → disk.World
+  abbrev pub second-next : disk.World → Step → disk.World
   second-next v c = disk.next h b b v (one c)
 
-  first-turn : (u v : disk.World) (c : Step) → Taken k l a b (beside u v) (one c) → next k l a b (beside u v) (one c) ≡ beside (first-next u c) v
+  pub first-turn : (u v : disk.World) (c : Step) → Taken k l a b (beside u v) (one c) → next k l a b (beside u v) (one c) ≡ beside (first-next u c) v
   first-turn u v c t =
       λ i. record {
         drives = step-drives k g (λ d. put d (v .disk)) (on-k (v .disk)) (u .disk) a (u .first) c t i;
@@ -164,7 +164,7 @@ module _ (k l : ℕ) (g h : Geometry) (put : List ℕ → List ℕ → Pair) (on
         second = lift l (v .first);
       }
 
-  second-turn : (u v : disk.World) (c : Step) → Taken k l a b (beside u v) (two c) → next k l a b (beside u v) (two c) ≡ beside u (second-next v c)
+  pub second-turn : (u v : disk.World) (c : Step) → Taken k l a b (beside u v) (two c) → next k l a b (beside u v) (two c) ≡ beside u (second-next v c)
   second-turn u v c t =
       λ i. record {
         drives = step-drives l h (put (u .disk)) (on-l (u .disk)) (v .disk) b (v .first) c t i;

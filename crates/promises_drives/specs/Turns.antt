@@ -62,7 +62,7 @@ same-disk : (p : Pair) (k : ℕ) → IsDrive k → p ≡ withDisk p k (image p k
 same-disk p k zeroth = refl
 same-disk p k first = refl
 
-drive-told : (k : ℕ) (c : Refusal) → c .number ≡ 0 → driveOf k c ≡ k
+pub drive-told : (k : ℕ) (c : Refusal) → c .number ≡ 0 → driveOf k c ≡ k
 unfolding driveOf
 drive-told k c z = rw z refl
 
@@ -79,16 +79,16 @@ module _ (p : Pair) (k : ℕ) (is : IsDrive k) (n : Name) (s : Side) where
   abbrev held : ℕ → Handle
   held i = disk.handleAt (s .handles) i
 
-  at-is : (i : ℕ) → handleAt k (lift k s .handles) i ≡ handleOn k (held i)
+  pub at-is : (i : ℕ) → handleAt k (lift k s .handles) i ≡ handleOn k (held i)
   at-is i = List·getD-map (handleOn k) (s .handles) i noHandle
 
   -- what each call by handle answers by the list's handle
-  read-is : (a : Amount) (i : ℕ) (b : List ℕ) → let h = handleAt k (lift k s .handles) i in let r = Read.readOf g d (held i) (howMany a (held i .len) b) b in
+  pub read-is : (a : Amount) (i : ℕ) (b : List ℕ) → let h = handleAt k (lift k s .handles) i in let r = Read.readOf g d (held i) (howMany a (held i .len) b) b in
       _≡_ {A = DriveAnswer × List ℕ} (readOf p h (howMany a (h .handle .len) b) b) (answered k (r .0), r .1)
   unfolding readOf
   read-is a i b = ap (λ (h : DriveHandle). readOf p h (howMany a (h .handle .len) b) b) (at-is i) ∙ on-drive _ _ k is
 
-  sector-is : (i j : ℕ) → readSector p (handleAt k (lift k s .handles) i) j ≡ partOn k (Read.readSector g d (held i) j)
+  pub sector-is : (i j : ℕ) → readSector p (handleAt k (lift k s .handles) i) j ≡ partOn k (Read.readSector g d (held i) j)
   sector-is i j = ap (λ (h : DriveHandle). readSector p h j) (at-is i) ∙ on .readsSector (held i) j
 
   abbrev Changed : Answer × List ℕ → DriveAnswer × List ℕ × List ℕ
