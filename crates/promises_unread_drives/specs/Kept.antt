@@ -117,7 +117,8 @@ module _ (u v : Kinds) (g h : Geometry) (d d′ e e′ : List ℕ) (a : ReadAlik
         (ap (lookedUpOn (searched p n) (passedOver p n)) (found (searched p n))
         ∙ (λ i. lookedUpOn (searched-same i) (passed-same i) (lookUpOn q (searched-same i) n))) (λ t. refl)
 
-    open-file : (numbered : Bool) (k len : ℕ) (checking : Bool) (code : ℕ) → openFile p numbered k n len checking code ≡ openFile q numbered k n len checking code
+    open-file : (numbered : Bool) (k len : ℕ) (checking : Bool) (code : ℕ)
+        → openFile p numbered k n len checking code ≡ openFile q numbered k n len checking code
     unfolding openFile
     open-file numbered k len checking code =
         named {A = DriveAnswer} (λ x y. x ≡ y) numbered k (openOn p n len checking code) (openOn q n len checking code) _ _ notOpened notOpened
