@@ -12,9 +12,11 @@ fn entry_taken(image: &[u8], g: Geometry, s: usize) -> bool
     requires { ⌜ Room g (now image) × RunsOnDisk g (now image) s ⌝ }
     ensures { λ r. ⌜ r ≡ some (taken g (now (image .entry))) (entryGranules g (now (image .entry)) s) ⌝ }
 {
-    let n = layout::runs(image, g, s);
     let mut j = 0;
-    while j < n {
+    while j < layout::PAIRS {
+        if layout::field(image, g, s, layout::BLOCKS + 2 * j) == layout::ENDS {
+            return false;
+        }
         let a = layout::run_start(image, g, s, j);
         let len = layout::run_length(image, g, s, j);
         if space::run_taken(image, g, a, len) {

@@ -1,13 +1,13 @@
 -- The call: the refusals, and what is left.
-use mathlib.Core.Path.{_≡_, sym, ap, _∙_}
+use mathlib.Core.Path.{_≡_, sym, ap, subst, _∙_}
 use mathlib.Core.List.{List, [], _∷_}
 use mathlib.Core.Bool.{true, false, not}
 use Prim.Native.Nat.{ℕ, _+_}
-use lib.ListN.{length, take, drop}
+use lib.ListN.{length}
 use lib.Dec.{eqb}
 use borrow.Author.Tests.{ne-eqb}
 use Rattle.meaning.specs.Lists.{each, some, through}
-use Rattle.meaning.specs.Layout.{isSlot, entryAt, taken, takeGranule, slots}
+use Rattle.meaning.specs.Layout.{isSlot, taken, takeGranule, slots}
 use Rattle.meaning.specs.Names.{hash}
 use Rattle.meaning.specs.Entries.{inUse, system, nameOf, entryGranules}
 use Rattle.meaning.specs.Chain.{chain, owned}
@@ -17,7 +17,7 @@ use Rattle.meaning.specs.BringBack.{whole, backEntry, bringBack}
 use Rattle.meaning.specs.declared.Geometry.{Geometry}
 use Rattle.meaning.specs.declared.BroughtBack.{BroughtBack}
 use Rattle.meaning.specs.declared.Refusal.{Refusal}
-use Rattle.layout.specs.Room.{Room, Slot}
+use Rattle.layout.specs.Room.{Room}
 use Rattle.lists.specs.Tests.{not-yes, not-no, first-hit, first-skip, first-none}
 use Rattle.passed.proofs.Checked.{check-stop, check-then}
 use Rattle.seek.proofs.Frame.{Same}
@@ -31,7 +31,6 @@ use Rattle.bring_back.specs.declared.Planned.{Planned}
 use Rattle.back_chain.proofs.First.{first-length}
 use Rattle.back_write.proofs.Frame.{same-taken}
 use Rattle.back_taken.proofs.OnDisk.{same-on-disk, under-each, listed-in}
-use Rattle.entry.proofs.EntryTests.{name-is}
 
 module _ (g : Geometry) (d : List ℕ) (s : ℕ) where
   -- The refusals -------------------------------------------------------------------------------------------------------------
@@ -77,15 +76,13 @@ module _ (g : Geometry) (d : List ℕ) (s : ℕ) where
       at-none w k t = sym (so-far ∙ first-skip (not-yes w) 18 _ ∙ first-skip k 19 _ ∙ first-skip t 20 _ ∙ first-none)
 
   -- the name is looked up
-  pub name-used : {n : ℕ} {f : Found} → Room g d → Slot g d s → n ≡ 11 → Finds g d (take n (drop (entryAt g s + 5) d)) f → f .is ≡ true → BringBack.nameInUse
-      g d s ≡ true
-  name-used {n} {f} r sl e w t =
-      ap (λ (l : List ℕ). not (eqb (length l) 0)) (finds-one g d (nameOf g d s) (rw (name-is g d s r sl e) at w) (not-yes t))
+  pub name-used : {n : List ℕ} {f : Found} → n ≡ nameOf g d s → Finds g d n f → f .is ≡ true → BringBack.nameInUse g d s ≡ true
+  name-used {n} {f} e w t =
+      ap (λ (l : List ℕ). not (eqb (length l) 0)) (finds-one g d (nameOf g d s) (subst (λ (m : List ℕ). Finds g d m f) e w) (not-yes t))
 
-  pub name-free : {n : ℕ} {f : Found} → Room g d → Slot g d s → n ≡ 11 → Finds g d (take n (drop (entryAt g s + 5) d)) f → f .is ≡ false → BringBack.nameInUse
-      g d s ≡ false
-  name-free {n} {f} r sl e w t =
-      ap (λ (l : List ℕ). not (eqb (length l) 0)) (finds-none g d (nameOf g d s) (rw (name-is g d s r sl e) at w) (not-no t))
+  pub name-free : {n : List ℕ} {f : Found} → n ≡ nameOf g d s → Finds g d n f → f .is ≡ false → BringBack.nameInUse g d s ≡ false
+  name-free {n} {f} e w t =
+      ap (λ (l : List ℕ). not (eqb (length l) 0)) (finds-none g d (nameOf g d s) (subst (λ (m : List ℕ). Finds g d m f) e w) (not-no t))
 
   -- the granules are those of the entries written down
   pub taken-is : {es : List ℕ} {n size : ℕ} → Written g d (chain g d s) es n size → some (taken g d) (each (entryGranules g d) (firstOf es n)) ≡ some

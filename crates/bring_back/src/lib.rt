@@ -56,10 +56,8 @@ fn plan(
     if !l.ok {
         return refused(18);
     }
-    let a = 256 * (g.start + 2 + s % 32) + 32 * (s / 32) + 5;
-    let e = a + 11;
-    let name = &image[a..e];
-    let f = look_up::find(image, g, name);
+    let name = entry::name_of(image, g, s);
+    let f = look_up::find(image, g, &name);
     if f.is {
         return refused(19);
     }
@@ -70,7 +68,7 @@ fn plan(
         number: 0,
         slots: l.slots,
         granules: l.granules,
-        hash: name_hash::hash(name),
+        hash: name_hash::hash(&name),
     }
 }
 

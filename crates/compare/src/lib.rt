@@ -51,11 +51,10 @@ fn name_only(image: &[u8], g: Geometry, s: usize, kind: u8) -> Difference
     requires { ⌜ Room g (now image) × Slot g (now image) s ⌝ }
     ensures { λ r. ⌜ r ≡ nameOnly (nameOf g (now (image .entry)) s) kind ⌝ }
 {
-    let p = compare_order::name_place(image, g, s);
     Difference {
         refusal: refusal::unplaced(0),
         kind,
-        name: look_up::name_at(image, p),
+        name: entry::name_of(image, g, s),
         at: 0,
         contents: false,
         size: false,
@@ -77,11 +76,10 @@ fn unlike(first: &[u8], g: Geometry, second: &[u8], h: Geometry, s: usize, t: us
     let date = compare_attributes::dates_differ(first, g, second, h, s, t);
     let other = compare_attributes::others_differ(first, g, second, h, s, t);
     let kind = kind_of(contents, size, date, other);
-    let p = compare_order::name_place(first, g, s);
     Difference {
         refusal: refusal::unplaced(0),
         kind,
-        name: look_up::name_at(first, p),
+        name: entry::name_of(first, g, s),
         at,
         contents,
         size,

@@ -40,7 +40,7 @@ fn name_before(a: &[u8], p: usize, b: &[u8], q: usize) -> bool
 }
 
 // Where the name of slot s lies.
-pub fn name_place(image: &[u8], g: Geometry, s: usize) -> usize
+fn name_place(image: &[u8], g: Geometry, s: usize) -> usize
     requires { ⌜ Room g (now image) × Slot g (now image) s ⌝ }
     ensures { λ r. ⌜ NamePlaced g (now (image .entry)) s r ⌝ }
 {

@@ -5,7 +5,7 @@ use mathlib.Core.Bool.{Bool, true, false, not}
 use Prim.Native.Nat.{ℕ, suc, _+_, _/_, _%_, _≤_, _<_}
 use native.Mathlib.Omega.{arith}
 use lib.ListN.{length, set, take, drop, replicate}
-use lib.Seq.{sets, take-all}
+use lib.Seq.{sets, sets-eq, take-all}
 use lib.Dec.{eqb}
 use borrow.Author.Tests.{ne-eqb, leb-true}
 use Rattle.meaning.specs.Lists.{count, all, firstOr}
@@ -29,7 +29,6 @@ use Rattle.layout.specs.Room.{Slot}
 use Rattle.lists.specs.Tests.{all-at, all-yes, all-no, all-none, first-hit, first-skip, first-none, not-yes, not-no}
 use Rattle.layout.proofs.HasRoom.{slot-of}
 use Rattle.passed.proofs.Checked.{check-stop, check-then, length-range}
-use Rattle.copy.proofs.OneByOne.{sets-append}
 use Rattle.look_up.proofs.Open.{slot-found}
 
 -- day, month, year and record length as the entry can hold them
@@ -37,22 +36,21 @@ pub ranges : (f : NewFile) → newInRange f ≡ true → (f .day ≤ 31) × (f .
 unfolding newInRange
 ranges f r = (leb-true _ _ (all-at _ r 0), leb-true _ _ (all-at _ r 1), leb-true _ _ (all-at _ r 2), length-range (f .len) (all-at _ r 3))
 
--- the entry, written in three parts
-pub entry-put : (g : Geometry) (d : List ℕ) (x : ℕ) (n : List ℕ) (f : NewFile) {d₁ d₂ d₃ : List ℕ} {h : ℕ} → length n ≡ 11
-    → d₁ ≡ sets d (entryAt g x) (0x10 ∷ f .day ∷ dateByte (f .year) (f .month) ∷ 0 ∷ f .len % 256 ∷ [])
-    → d₂ ≡ sets d₁ (entryAt g x + 5) (take 11 (drop 0 n))
-    → d₃ ≡ sets d₂ (entryAt g x + 16) (f .main % 256 ∷ f .main / 256 ∷ f .worker % 256 ∷ f .worker / 256 ∷ 0 ∷ 0 ∷ replicate 10 0xff)
-    → h ≡ hash n → set d₃ (hitAt g x) h ≡ withEntry g d x n f
-entry-put g d x n f {d₁} {d₂} {d₃} {h} l a b c e =
-    let start : List ℕ = 0x10 ∷ f .day ∷ dateByte (f .year) (f .month) ∷ 0 ∷ f .len % 256 ∷ [] in
-    let rest : List ℕ = f .main % 256 ∷ f .main / 256 ∷ f .worker % 256 ∷ f .worker / 256 ∷ 0 ∷ 0 ∷ replicate 10 0xff in
-    let q : entryAt g x + 5 + length n ≡ entryAt g x + 16 = omega arith in
-    let w : d₂ ≡ sets d₁ (entryAt g x + 5) n = b ∙ ap (sets d₁ (entryAt g x + 5)) (take-all 11 n (omega arith)) in
-    let z : d₃ ≡ sets d (entryAt g x) (newEntry n f)
-    = c ∙ ap (λ (l : List ℕ). sets l (entryAt g x + 16) rest) w ∙ ap (λ (i : ℕ). sets (sets d₁ (entryAt g x + 5) n) i rest) (sym q)
-    ∙ sym (sets-append d₁ (entryAt g x + 5) n rest) ∙ ap (λ (l : List ℕ). sets l (entryAt g x + 5) (n ++ rest)) a
-    ∙ sym (sets-append d (entryAt g x) start (n ++ rest)) in
-    ap (λ (l : List ℕ). set l (hitAt g x) h) z ∙ ap (set (sets d (entryAt g x) (newEntry n f)) (hitAt g x)) e
+-- a new entry before its name is in it
+abbrev nameless : NewFile → List ℕ
+nameless f =
+    0x10 ∷ f .day ∷ dateByte (f .year) (f .month) ∷ 0 ∷ f .len % 256 ∷ (replicate 11 0 ++
+    (f .main % 256 ∷ f .main / 256 ∷ f .worker % 256 ∷ f .worker / 256 ∷ 0 ∷ 0 ∷ replicate 10 0xff))
+
+-- its name put into it, and it into its slot
+pub entry-new : (g : Geometry) (d : List ℕ) (x : ℕ) (n : List ℕ) (f : NewFile) {b : List ℕ} {h : ℕ} → length n ≡ 11
+    → b ≡ sets (nameless f) 5 (take 11 (drop 0 n)) → h ≡ hash n → set (sets d (entryAt g x) b) (hitAt g x) h ≡ withEntry g d x n f
+entry-new g d x n f {b} {h} l a e =
+    let w : length (nameless f) ≡ 32 = refl in
+    let z : b ≡ newEntry n f
+    = a ∙ ap (sets (nameless f) 5) (take-all 11 n (omega arith)) ∙ sets-eq n (nameless f) 5 (omega arith)
+    ∙ ap (λ (k : ℕ). take 5 (nameless f) ++ n ++ drop (5 + k) (nameless f)) l in
+    ap (λ (y : List ℕ). set (sets d (entryAt g x) y) (hitAt g x) h) z ∙ ap (set (sets d (entryAt g x) (newEntry n f)) (hitAt g x)) e
 
 first-is : (z y : ℕ) (ys : List ℕ) → firstOr z (y ∷ ys) ≡ y
 unfolding firstOr

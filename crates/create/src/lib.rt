@@ -35,12 +35,24 @@ fn put_entry(image: &mut [u8], g: Geometry, x: usize, name: &[u8], f: NewFile)
     requires { ⌜ (entryAt g x + 32 ≤ length (now image)) × (x < 256) × (length (now name) ≡ 11) × (newInRange f ≡ true) ⌝ }
     ensures { λ _. ⌜ now (image .exit) ≡ withEntry g (now (image .entry)) x (now (name .entry)) f ⌝ }
 {
-    let at = 256 * (g.start + 2 + x % 32) + 32 * (x / 32);
     let date = f.year * 16 + f.month;
-    let start: [u8; 5] = [0x10, f.day as u8, date as u8, 0, (f.len % 256) as u8];
-    copy::put_part(image, at, &start, 0, 5);
-    copy::put_part(image, at + 5, name, 0, 11);
-    let rest: [u8; 16] = [
+    let mut entry: [u8; 32] = [
+        0x10,
+        f.day as u8,
+        date as u8,
+        0,
+        (f.len % 256) as u8,
+        0,
+        0,
+        0,
+        0,
+        0,
+        0,
+        0,
+        0,
+        0,
+        0,
+        0,
         (f.main % 256) as u8,
         (f.main / 256) as u8,
         (f.worker % 256) as u8,
@@ -58,8 +70,8 @@ fn put_entry(image: &mut [u8], g: Geometry, x: usize, name: &[u8], f: NewFile)
         0xff,
         0xff,
     ];
-    copy::put_part(image, at + 16, &rest, 0, 16);
-    image[256 * (g.start + 1) + x] = name_hash::hash(name) as u8;
+    copy::put_part(&mut entry, layout::NAME, name, 0, 11);
+    entry::put(image, g, x, &entry, name_hash::hash(name));
 }
 
 // A refused create hands back a handle of zeros.

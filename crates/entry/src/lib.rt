@@ -1,12 +1,25 @@
-// What the rules ask of an entry, tested at its slot, whatever file it is of and whether it is in use or killed.
+// An entry as a whole: its name, what the rules ask of it, tested at its slot, whatever file it is of and whether it is in use or killed; and
+// a new one put.
 use meaning::Geometry;
 ghost use mathlib.Core.Path.{_≡_};
-ghost use Prim.Native.Nat.{_<_};
-ghost use lib.ListN.{length};
-ghost use Rattle.meaning.specs.Entries.{sectorCount, endByte};
+ghost use Prim.Native.Nat.{_+_, _<_, _≤_};
+ghost use lib.ListN.{length, set};
+ghost use lib.Seq.{sets};
+ghost use Rattle.meaning.specs.Layout.{entryAt, hitAt};
+ghost use Rattle.meaning.specs.Entries.{nameOf, sectorCount, endByte};
 ghost use Rattle.meaning.specs.Chain.{owned};
 ghost use Rattle.meaning.specs.Consistent.{followsBy, nameHolds, sizeHolds, countHolds};
 ghost use Rattle.layout.specs.Room.{Room, Slot};
+
+// The name of a slot, with its type.
+pub fn name_of(image: &[u8], g: Geometry, s: usize) -> [u8; 11]
+    requires { ⌜ Room g (now image) × Slot g (now image) s ⌝ }
+    ensures { λ r. ⌜ r ≡ nameOf g (now (image .entry)) s ⌝ }
+{
+    let mut name = [0u8; 11];
+    copy::copy_into(&mut name, image, layout::name_at(image, g, s));
+    name
+}
 
 // Whether t is an extension that points back to s and has a run. Its flags are 90H where the file is in use, 80H where it is killed.
 pub fn follows(image: &[u8], g: Geometry, flags: usize, s: usize, t: usize) -> bool
@@ -30,9 +43,8 @@ pub fn name_holds(image: &[u8], g: Geometry, s: usize) -> bool
     requires { ⌜ Room g (now image) × Slot g (now image) s ⌝ }
     ensures { λ r. ⌜ r ≡ nameHolds g (now (image .entry)) s ⌝ }
 {
-    let a = layout::name_at(image, g, s);
-    let e = a + 11;
-    if !name_spelling::well_formed(&image[a..e]) {
+    let name = name_of(image, g, s);
+    if !name_spelling::well_formed(&name) {
         return false;
     }
     !layout::flag(image, g, s, layout::ZERO)
@@ -58,4 +70,14 @@ pub fn size_holds(image: &[u8], g: Geometry, s: usize, granules: usize) -> bool
         return false;
     }
     layout::size_of(image, g, s) <= layout::granule_bytes(g) * granules
+}
+
+// A new entry in a slot, all 32 bytes of it, and the slot's HIT byte: of a file that is created, or of an extension.
+pub fn put(image: &mut [u8], g: Geometry, s: usize, bytes: &[u8], hash: usize)
+    requires { ⌜ (entryAt g s + 32 ≤ length (now image)) × (s < 256) × (length (now bytes) ≡ 32) × (hash < 256) ⌝ }
+    ensures { λ _. ⌜ now (image .exit) ≡ set (sets (now (image .entry)) (entryAt g s) (now (bytes .entry))) (hitAt g s) hash ⌝ }
+{
+    let at = layout::entry_at(image, g, s);
+    copy::put_part(image, at, bytes, 0, 32);
+    layout::set_hit(image, g, s, hash);
 }

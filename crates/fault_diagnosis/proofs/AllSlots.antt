@@ -5,10 +5,9 @@ use mathlib.Core.Bool.{Bool, true, false, not, cond, _&&_, Bool·beq}
 use Prim.Native.Nat.{ℕ, _+_, _-_, _/_, _≤_, _<_}
 use native.Mathlib.Omega.{arith}
 use lib.Dec.{T, eqb, ltb, ltb→lt, lt→ltb}
-use lib.ListN.{length, take, drop}
 use borrow.Author.Tests.{eq-eqb, ne-eqb}
 use Rattle.meaning.specs.Lists.{count, every, some, keep, same}
-use Rattle.meaning.specs.Layout.{granules, fitsGeometry, taken, isSlot, slots, entryAt, directorySectors, granuleSectors, roundUp}
+use Rattle.meaning.specs.Layout.{granules, fitsGeometry, taken, isSlot, slots, directorySectors, granuleSectors, roundUp}
 use Rattle.lists.specs.Sizes
 use Rattle.meaning.specs.Entries.{inUsePrimary, nameOf}
 use Rattle.meaning.specs.Chain.{files}
@@ -17,8 +16,7 @@ use Rattle.meaning.specs.Refusal.{unplaced, placed}
 use Rattle.meaning.specs.Fault.{faultAt, lowest, fault}
 use Rattle.meaning.specs.declared.Geometry.{Geometry}
 use Rattle.meaning.specs.declared.Refusal.{Refusal}
-use Rattle.layout.specs.Room.{Room, Slot}
-use Rattle.layout.proofs.OneStep.{name-part}
+use Rattle.layout.specs.Room.{Room}
 use Rattle.lists.specs.Tests.{keep-yes, keep-no}
 use Rattle.lists.specs.Members
 use Rattle.laws.specs.Facts
@@ -37,40 +35,30 @@ beq-on false false h = refl
 beq-on true b h = absurd (let z : _≡_ {A = ℕ} 0 1 = cc in let q : ⊥ = omega arith in q)
 
 module _ (g : Geometry) (d : List ℕ) where
-  place-low : (s : ℕ) → Room g d → Slot g d s → entryAt g s + 32 ≤ length d
-  place-low s r h = let a = h .low in let b = h .held in let c = r .directory in let e = r .long in omega arith
-
-  -- the eleven bytes of a name
-  pub name-is : (s n : ℕ) → Room g d → Slot g d s → n ≡ 11 → take n (drop (entryAt g s + 5) d) ≡ nameOf g d s
-  name-is s n r h e =
-      let l = place-low s r h in
-      ap (λ (k : ℕ). take k (drop (entryAt g s + 5) d)) e ∙ sym (name-part g d s (omega arith))
-
-  pub names-are : (p q n : ℕ) {r : Bool} → Room g d → Slot g d p → Slot g d q → n ≡ 11
-      → r ≡ same (take 11 (drop (entryAt g q + 5) d)) (take n (drop (entryAt g p + 5) d)) → r ≡ same (nameOf g d q) (nameOf g d p)
-  names-are p q n m h l z e =
-      e ∙ ap (λ (k : List ℕ). same k (take n (drop (entryAt g p + 5) d))) (name-is q 11 m l refl) ∙ ap (same (nameOf g d q)) (name-is p n m h z)
+  -- the same of a name that is another's
+  pub under : (q : ℕ) {r : Bool} {n m : List ℕ} → r ≡ sameFile g d n q → n ≡ m → r ≡ sameFile g d m q
+  under q e w = e ∙ ap (λ (x : List ℕ). sameFile g d x q) w
 
   -- a name in a lower slot
-  pub below-is : (p : ℕ) → p < 256 → some (λ q. ltb q p && same (nameOf g d q) (nameOf g d p)) (files g d) ≡ some (sameFile g d p) (count 0 p)
+  pub below-is : (p : ℕ) → p < 256 → some (λ q. ltb q p && same (nameOf g d q) (nameOf g d p)) (files g d) ≡ some (sameFile g d (nameOf g d p)) (count 0 p)
   unfolding sameFile
-  below-is p l = Members.both-T {a = some old (files g d)} {b = some (sameFile g d p) (count 0 p)} fore back
+  below-is p l = Members.both-T {a = some old (files g d)} {b = some (sameFile g d (nameOf g d p)) (count 0 p)} fore back
     where
       old : ℕ → Bool
       old q = ltb q p && same (nameOf g d q) (nameOf g d p)
 
-      fore : T (some old (files g d)) → T (some (sameFile g d p) (count 0 p))
+      fore : T (some old (files g d)) → T (some (sameFile g d (nameOf g d p)) (count 0 p))
       fore v =
           let k = Kinds.some-in old (files g d) v in
           let f = Facts.files-in g d (k .0) (k .1) in
           let h = ltb→lt (k .0) p (Members.and-l (ltb (k .0) p) (same (nameOf g d (k .0)) (nameOf g d p)) (k .2)) in
-          Kinds.in-some (sameFile g d p) (Members.in-count (k .0) 0 p (omega arith) (omega arith))
+          Kinds.in-some (sameFile g d (nameOf g d p)) (Members.in-count (k .0) 0 p (omega arith) (omega arith))
           (Kinds.all-three (isSlot g d (k .0)) (inUsePrimary g d (k .0)) (same (nameOf g d (k .0)) (nameOf g d p)) (f .slot) (f .primary′)
           (Members.and-r (ltb (k .0) p) (same (nameOf g d (k .0)) (nameOf g d p)) (k .2)))
 
-      back : T (some (sameFile g d p) (count 0 p)) → T (some old (files g d))
+      back : T (some (sameFile g d (nameOf g d p)) (count 0 p)) → T (some old (files g d))
       back v =
-          let k = Kinds.some-in (sameFile g d p) (count 0 p) v in
+          let k = Kinds.some-in (sameFile g d (nameOf g d p)) (count 0 p) v in
           let m = Kinds.all-says (isSlot g d (k .0)) (inUsePrimary g d (k .0)) (same (nameOf g d (k .0)) (nameOf g d p)) (k .2) in
           let h = Members.count-in (k .0) 0 p (k .1) .1 in
           Kinds.in-some old (Facts.in-files g d (k .0) (record { slot = m .0; primary′ = m .1 }))

@@ -18,9 +18,9 @@ module _ (g : Geometry) (d : List ℕ) where
   abbrev pub hashDiffers : ℕ → Bool
   hashDiffers s = not (eqb (hit g d s) (hash (nameOf g d (fileOf g d s))))
 
-  -- a file starts at slot q with the name of that at p
-  unfoldable pub sameFile : ℕ → ℕ → Bool
-  sameFile p q = all (isSlot g d q ∷ inUsePrimary g d q ∷ same (nameOf g d q) (nameOf g d p) ∷ [])
+  -- a file of that name starts at slot q
+  unfoldable pub sameFile : List ℕ → ℕ → Bool
+  sameFile n q = all (isSlot g d q ∷ inUsePrimary g d q ∷ same (nameOf g d q) n ∷ [])
 
   -- the fault's number at s, 0 where s is no slot
   unfoldable pub faultIn : ℕ → ℕ

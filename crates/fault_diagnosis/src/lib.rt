@@ -4,8 +4,10 @@ use meaning::Refusal;
 ghost use mathlib.Core.Path.{_≡_};
 ghost use mathlib.Core.Bool.{true, false};
 ghost use Prim.Native.Nat.{_+_, _*_, _<_};
+ghost use lib.ListN.{length};
 ghost use Rattle.meaning.specs.Lists.{count, some};
 ghost use Rattle.meaning.specs.Layout.{slots};
+ghost use Rattle.meaning.specs.Entries.{nameOf};
 ghost use Rattle.meaning.specs.Consistent.{hitHolds};
 ghost use Rattle.meaning.specs.Fault.{hitFault, nameFault, duplicateFault, runFault, gatFault, sharedFault, faultAt, lowest, fault};
 ghost use Rattle.meaning.specs.Refusals.{check};
@@ -34,10 +36,8 @@ fn hash_differs(image: &[u8], g: Geometry, files: &[u8], s: usize) -> bool
     ensures { λ r. ⌜ r ≡ hashDiffers g (now (image .entry)) s ⌝ }
 {
     let p = fault_kinds::file_of(image, g, files, s);
-    let a = 256 * (g.start + 2 + p % 32) + 32 * (p / 32) + 5;
-    let e = a + 11;
-    let h = name_hash::hash(&image[a..e]);
-    layout::hit(image, g, s) != h
+    let name = entry::name_of(image, g, p);
+    layout::hit(image, g, s) != name_hash::hash(&name)
 }
 
 fn hit_fault(image: &[u8], g: Geometry, files: &[u8], goods: &[u8], s: usize) -> bool
@@ -66,10 +66,10 @@ fn name_fault(image: &[u8], g: Geometry, p: usize) -> bool
     !entry::name_holds(image, g, p)
 }
 
-// Whether a file starts at slot q with the name of that at p.
-fn same_file(image: &[u8], g: Geometry, p: usize, q: usize) -> bool
-    requires { ⌜ Room g (now image) × Slot g (now image) p ⌝ }
-    ensures { λ r. ⌜ r ≡ sameFile g (now (image .entry)) p q ⌝ }
+// Whether a file of that name starts at slot q.
+fn same_file(image: &[u8], g: Geometry, name: &[u8], q: usize) -> bool
+    requires { ⌜ Room g (now image) × (length (now name) ≡ 11) ⌝ }
+    ensures { λ r. ⌜ r ≡ sameFile g (now (image .entry)) (now (name .entry)) q ⌝ }
 {
     if !layout::is_slot(image, g, q) {
         return false;
@@ -77,23 +77,18 @@ fn same_file(image: &[u8], g: Geometry, p: usize, q: usize) -> bool
     if !layout::primary(image, g, q) {
         return false;
     }
-    let a = 256 * (g.start + 2 + p % 32) + 32 * (p / 32) + 5;
-    let e = a + 11;
-    layout::same_name(
-        image,
-        256 * (g.start + 2 + q % 32) + 32 * (q / 32) + 5,
-        &image[a..e],
-    )
+    layout::same_name(image, layout::name_at(image, g, q), name)
 }
 
 // Whether a file in a lower slot has the name of that at p.
 fn name_below(image: &[u8], g: Geometry, p: usize) -> bool
     requires { ⌜ Room g (now image) × Slot g (now image) p ⌝ }
-    ensures { λ r. ⌜ r ≡ some (sameFile g (now (image .entry)) p) (count 0 p) ⌝ }
+    ensures { λ r. ⌜ r ≡ some (sameFile g (now (image .entry)) (nameOf g (now (image .entry)) p)) (count 0 p) ⌝ }
 {
+    let name = entry::name_of(image, g, p);
     let mut q = 0;
     while q < p {
-        if same_file(image, g, p, q) {
+        if same_file(image, g, &name, q) {
             return true;
         }
         q += 1;

@@ -1,13 +1,12 @@
 -- The listed files, slot by slot.
-use mathlib.Core.Path.{_≡_, refl, sym, ap, subst, _∙_}
+use mathlib.Core.Path.{_≡_, refl, sym, ap, _∙_}
 use mathlib.Core.List.{List, [], _∷_}
 use mathlib.Core.Bool.{Bool, true, false, not, cond}
 use Prim.Native.Nat.{ℕ, zero, suc, _+_, _-_, _*_, _/_, _%_, _≤_, _<_}
 use native.Mathlib.Omega.{arith}
 use native.Mathlib.Nat.{zero-add, add-zero}
-use lib.ListN.{length, take, drop}
+use lib.ListN.{length, drop}
 use lib.Seq.{drop-nil}
-use lib.Dec.{T}
 use borrow.Author.Tests.{ne-eqb}
 use Rattle.meaning.specs.Lists.{keep, all}
 use Rattle.meaning.specs.Layout.{directorySectors, entryAt}
@@ -21,8 +20,6 @@ use Rattle.meaning.specs.declared.Geometry.{Geometry}
 use Rattle.meaning.specs.declared.Listed.{Listed}
 use Rattle.meaning.specs.declared.Counts.{Counts}
 use Rattle.meaning.specs.declared.Refusal.{Refusal}
-use Rattle.lists.specs.Members.{same-eq, same-refl}
-use Rattle.layout.proofs.OneStep.{name-at}
 use Rattle.lists.specs.Tests.{all-at, and-l}
 use Rattle.seek.specs.Seek.{Used}
 use Rattle.look_up.proofs.Pass.{slotsFrom, slots-start, slots-here, slots-past, slots-end}
@@ -31,15 +28,7 @@ use Rattle.look_up.proofs.Pass.{slotsFrom, slots-start, slots-here, slots-past,
 pub row-entry : (g : Geometry) (row : ℕ) → entryAt g (32 * row) ≡ 256 * (g .start + 2) + 32 * row + 256 * (32 * row - 32 * row)
 row-entry g row = omega arith
 
--- the eleven bytes at a place, by the place's name
-pub at-place : (d : List ℕ) {a b : ℕ} → a ≡ b → take 11 (drop a d) ≡ take 11 (drop b d)
-at-place d e = ap (λ (x : ℕ). take 11 (drop x d)) e
-
 module _ (g : Geometry) (d : List ℕ) where
-  -- the name as a part of the image
-  pub name-is : (s : ℕ) → entryAt g s + 16 ≤ length d → take 11 (drop (entryAt g s + 5) d) ≡ nameOf g d s
-  name-is s h = same-eq _ _ (subst (λ (b : Bool). T b) (name-at g d (nameOf g d s) s h) (same-refl (nameOf g d s)))
-
   pub told-is : (s : ℕ) {size granules : ℕ} {name : List ℕ} {c : Refusal} → c ≡ unplaced 0 → name ≡ nameOf g d s → size ≡ sizeOf g d s → granules ≡ length
       (owned g d s)
       → _≡_ {A = Listed} (record { refusal = c; more = true; name = name; size = size; granules = granules }) (tellFirst g d (s ∷ []))

@@ -56,7 +56,7 @@ fn tell(image: &[u8], g: Geometry, s: usize) -> Listed
     Listed {
         refusal: refusal::unplaced(0),
         more: true,
-        name: look_up::name_at(image, layout::name_at(image, g, s)),
+        name: entry::name_of(image, g, s),
         size: layout::size_of(image, g, s),
         granules: extent::measure(image, g, s).owned,
     }
@@ -161,8 +161,8 @@ fn put_row(image: &[u8], g: Geometry, s: usize, table: &mut [u8], to: usize)
         0,
         0,
     ];
-    let name = layout::name_at(image, g, s);
-    copy::put_part(table, to, image, name, 11);
+    let name = entry::name_of(image, g, s);
+    copy::put_part(table, to, &name, 0, 11);
     copy::put_part(table, to + 11, &numbers, 0, 9);
 }
 

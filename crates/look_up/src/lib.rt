@@ -6,7 +6,7 @@ use meaning::LookedUp;
 use meaning::Refusal;
 ghost use mathlib.Core.Path.{_≡_};
 ghost use Prim.Native.Nat.{_+_, _*_, _<_, _≤_};
-ghost use lib.ListN.{length, take, drop};
+ghost use lib.ListN.{length};
 ghost use Rattle.meaning.specs.Refusal.{carried};
 ghost use Rattle.meaning.specs.Refusals.{check};
 ghost use Rattle.meaning.specs.Handles.{noHandle};
@@ -102,22 +102,14 @@ pub fn look_up_checked(image: &[u8], g: Geometry, name: &[u8], checked: Refusal)
     }
 }
 
-// The eleven bytes at `at`.
-pub fn name_at(bytes: &[u8], at: usize) -> [u8; 11]
-    requires { ⌜ at + 11 ≤ length (now bytes) ⌝ }
-    ensures { λ r. ⌜ r ≡ take 11 (drop at (now (bytes .entry))) ⌝ }
-{
-    let mut name = [0u8; 11];
-    copy::copy_into(&mut name, bytes, at);
-    name
-}
-
 // A name of eleven bytes as a handle holds it.
-pub fn name_array(name: &[u8]) -> [u8; 11]
+fn name_array(name: &[u8]) -> [u8; 11]
     requires { ⌜ length (now name) ≡ 11 ⌝ }
     ensures { λ r. ⌜ r ≡ now (name .entry) ⌝ }
 {
-    name_at(name, 0)
+    let mut bytes = [0u8; 11];
+    copy::copy_into(&mut bytes, name, 0);
+    bytes
 }
 
 // Whether a code opens the file at slot s at level 0: checking is off, the main code is the "no password" code, or the code is the main

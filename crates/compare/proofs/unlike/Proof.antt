@@ -1,6 +1,5 @@
-use mathlib.Core.Path.{refl, _∙_}
+use mathlib.Core.Path.{refl}
 use Rattle.compare.proofs.Under.{unlike-is}
-use Rattle.compare_order.proofs.Names.{placed-name}
 use borrow.Author.Needs.{needs}
 use Rattle.compare.proofs.unlike.Statement.{statement}
 use Rattle.compare.proofs.unlike.Tie as tie
@@ -9,10 +8,9 @@ use Rattle.compare.proofs.unlike.Lts as lts
 use Rattle.compare.proofs.contents_differ.Reads as contents-differ-reads
 use Rattle.compare_attributes.proofs.dates_differ.Reads as dates-differ-reads
 use Rattle.compare.proofs.kind_of.Reads as kind-of-reads
-use Rattle.compare_order.proofs.name_place.Reads as name-place-reads
 use Rattle.compare_attributes.proofs.others_differ.Reads as others-differ-reads
 use Rattle.compare_bytes.proofs.parting_at.Reads as parting-at-reads
-use Rattle.look_up.proofs.name_at.Reads as name-at-reads
+use Rattle.entry.proofs.name_of.Reads as name-of-reads
 use Rattle.layout.proofs.size_of.Reads as size-of-reads
 use Rattle.refusal.proofs.unplaced.Reads as unplaced-reads
 
@@ -39,24 +37,22 @@ others-differ-requires c κs = search needs
 kind-of-requires : tie.Need-kind-of-requires
 kind-of-requires c κs = search needs
 
-name-place-requires : tie.Need-name-place-requires
-name-place-requires c κs = search needs
-
 unplaced-requires : tie.Need-unplaced-requires
 unplaced-requires c κs = search needs
 
-name-at-requires : tie.Need-name-at-requires
-name-at-requires c κs = search needs
+name-of-requires : tie.Need-name-of-requires
+name-of-requires c κs =
+    let c₅ = c .before .before .before .before .before in let p = c₅ .before .before .before .before .before .pre in (p .0 .sound .room, p .2 .slot)
 
 returns : tie.Need-returns
-returns c = let a = c .before .before .before .before .before .before .before .before .before .before .before .before .args in
+returns c = let a = c .before .before .before .before .before .before .before .before .before .before .before .args in
     unlike-is (a .g) (a .first .now) (a .h) (a .second .now) (a .s) (a .t) (c .before .unplaced .ensures)
-    (c .name-at .ensures ∙ placed-name (a .g) (a .first .now) (a .s) _ (c .before .before .name-place .ensures))
-    (c .before .before .before .before .before .before .before .before .before .size-of .ensures .is)
-    (c .before .before .before .before .before .before .before .before .size-of2 .ensures .is)
-    (c .before .before .before .before .before .before .before .parting-at .ensures)
-    (c .before .before .before .before .before .before .contents-differ .ensures) refl (c .before .before .before .before .before .dates-differ .ensures)
-    (c .before .before .before .before .others-differ .ensures) (c .before .before .before .kind-of .ensures)
+    (c .name-of .ensures)
+    (c .before .before .before .before .before .before .before .before .size-of .ensures .is)
+    (c .before .before .before .before .before .before .before .size-of2 .ensures .is)
+    (c .before .before .before .before .before .before .parting-at .ensures)
+    (c .before .before .before .before .before .contents-differ .ensures) refl (c .before .before .before .before .dates-differ .ensures)
+    (c .before .before .before .others-differ .ensures) (c .before .before .kind-of .ensures)
 
 pub unlike-spec : {M : Type 1} → statement M
 unlike-spec =
@@ -69,6 +65,5 @@ unlike-spec =
     dates-differ-requires
     others-differ-requires
     kind-of-requires
-    name-place-requires
-    unplaced-requires name-at-requires
+    unplaced-requires name-of-requires
     returns)

@@ -1,16 +1,16 @@
 use native.Mathlib.Omega.{arith}
+use mathlib.Core.Path.{_∙_}
+use lib.Seq.{take-all}
+use Rattle.entry.proofs.EntryTests.{name-long}
 use Rattle.listing.proofs.Rows.{row-put}
-use Rattle.listing.proofs.Files.{name-is, at-place}
-use mathlib.Core.Path.{ap, _∙_}
-use lib.Seq.{sets}
 use borrow.Author.Needs.{needs}
 use Rattle.listing.proofs.put_row.Statement.{statement}
 use Rattle.listing.proofs.put_row.Tie as tie
 use Rattle.listing.proofs.put_row.Reads as reads
 use Rattle.listing.proofs.put_row.Lts as lts
 use Rattle.copy.proofs.put_part.Reads as put-part-reads
+use Rattle.entry.proofs.name_of.Reads as name-of-reads
 use Rattle.extent.proofs.measure.Reads as measure-reads
-use Rattle.layout.proofs.name_at.Reads as name-at-reads
 use Rattle.layout.proofs.size_of.Reads as size-of-reads
 
 size-of-requires : tie.Need-size-of-requires
@@ -40,8 +40,11 @@ cast-t28 c = search needs
 cast-t31 : tie.Need-cast-t31
 cast-t31 c = search needs
 
-name-at-requires : tie.Need-name-at-requires
-name-at-requires c κs = search needs
+name-of-requires : tie.Need-name-of-requires
+name-of-requires c κs = search needs
+
+slice-aggregate-put-part : tie.Need-slice-aggregate-put-part
+slice-aggregate-put-part c = search needs
 
 put-part-requires : tie.Need-put-part-requires
 put-part-requires c κs = search needs
@@ -49,8 +52,8 @@ put-part-requires c κs = search needs
 add-put-part : tie.Need-add-put-part
 add-put-part c = search needs
 
-slice-aggregate-put-part : tie.Need-slice-aggregate-put-part
-slice-aggregate-put-part c = search needs
+slice-aggregate-put-part-2 : tie.Need-slice-aggregate-put-part-2
+slice-aggregate-put-part-2 c = search needs
 
 put-part-requires-2 : tie.Need-put-part-requires-2
 put-part-requires-2 c κs = search needs
@@ -60,16 +63,12 @@ same-length c = search needs
 
 returns : tie.Need-returns
 returns c =
-    let a = c .before .before .before .before .before .before .before .before .before .before .before .before .before .before .args in
-    let p = c .before .before .before .before .before .before .before .before .before .before .before .before .before .before .pre in
-    row-put (a .g) (a .image .now) (a .table .now) (a .to) (a .s)
-    (name-is (a .g) (a .image .now) (a .s) (let r = p .0 .room in let u = p .1 .slot in omega arith))
-    (c .before .before .before .before .before .before .before .before .before .before .before .size-of .ensures .is)
-    (c .before .before .before .before .before .before .before .before .before .before .measure .ensures .many)
-    (c .before .before .before .before .before .before .before .put-part .ensures ∙
-    ap (sets (a .table .now) (a .to))
-    (at-place (a .image .now) (c .before .before .before .before .before .before .before .before .before .name-at .ensures)))
-    (c .before .before .put-part2 .ensures)
+    let c₇ = c .before .before .before .before .before .before .before in
+    let c₁₀ = c₇ .before .before .before in let name = c₁₀ .name-of in
+    let c₁₅ = c₁₀ .before .before .before .before .before in let a = c₁₅ .args in
+    let l = name-long (a .g) (a .image .now) (a .s) (name .ensures) in
+    row-put (a .g) (a .image .now) (a .table .now) (a .to) (a .s) (take-all 11 (name .result) (omega arith) ∙ name .ensures)
+    (c₁₀ .before .before .size-of .ensures .is) (c₁₀ .before .measure .ensures .many) (c₇ .put-part .ensures) (c .before .before .put-part2 .ensures)
 
 pub put-row-spec : {M : Type 1} → statement M
 put-row-spec =
@@ -84,10 +83,11 @@ put-row-spec =
     cast-t26
     cast-t28
     cast-t31
-    name-at-requires
+    name-of-requires
+    slice-aggregate-put-part
     put-part-requires
     add-put-part
-    slice-aggregate-put-part
+    slice-aggregate-put-part-2
     put-part-requires-2
     same-length
     returns)
