@@ -23,7 +23,8 @@ use Rattle.meaning.specs.Refusal.{unplaced}
 use Rattle.laws.specs.Stretches.{stretch-taken, stretch-free, stretch-le}
 use Rattle.lists.specs.Ranges.{left-none}
 use Rattle.lists.specs.Tests.{keep-yes, keep-no, all-at, first-hit, first-skip, first-none, not-yes, not-no}
-use Rattle.space.proofs.Clear.{freeIn, gatByte, taken-at, blocks-more, block-next}
+use Rattle.space.specs.Clear.{freeIn}
+use Rattle.space.proofs.Clear.{gatByte, taken-at, blocks-more, block-next}
 use Rattle.free_space.specs.Pass.{Gat, Tells, ended, longer, met, bits}
 use Rattle.free_space.specs.declared.Seen.{Seen}
 

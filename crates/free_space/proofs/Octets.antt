@@ -4,11 +4,11 @@ use mathlib.Core.List.{List, [], _∷_}
 use Prim.Native.Nat.{ℕ, zero, suc, _+_, _-_, _*_, _%_, _^_, _≤_, _<_}
 use native.Mathlib.Omega.{arith}
 use native.Mathlib.Nat.{add-zero, zero-mul, suc-mul, pow-succ'}
-use lib.ListN.{length, getD, take, drop, length-take, length-drop}
-use lib.Seq.{getD-take, getD-drop}
+use lib.ListN.{length, getD, take, drop}
 use Rattle.meaning.specs.Layout.{byte}
 use Rattle.meaning.specs.declared.Geometry.{Geometry}
 use Rattle.layout.specs.Number.{number}
+use Rattle.space.proofs.Eights.{byte-of, eight-long}
 use Rattle.free_space.specs.Pass.{ended, EightBlocks}
 use Rattle.free_space.specs.declared.Seen.{Seen}
 use Rattle.free_space.proofs.GatPass.{bits-clear, bits-set, ended-again, Going, going-step}
@@ -32,25 +32,16 @@ all-full (suc n) (x ∷ xs) l s e (suc k) h =
     all-full n xs (omega arith) (λ i j. s (suc i) (omega arith)) (omega arith) k (omega arith)
 
 module _ (g : Geometry) (d : List ℕ) (b at : ℕ) (e : at ≡ 256 * g .start + b) where
-  -- byte k of them is that of block b + k
-  byte-of : (k : ℕ) → k < 8 → getD (take 8 (drop at d)) k 0 ≡ byte d (256 * g .start + (b + k))
-  byte-of k h =
-      let f : at + k ≡ 256 * g .start + (b + k) = omega arith in
-      getD-take 8 (drop at d) k 0 h ∙ getD-drop at d k 0 ∙ ap (byte d) f
-
-  eight-long : at + 8 ≤ length d → length (take 8 (drop at d)) ≡ 8
-  eight-long h = length-take 8 (drop at d) ∙ (let l = length-drop at d in omega arith)
-
   pub octet-is : {r : ℕ} → r ≡ number (take 8 (drop at d)) → at + 8 ≤ length d → ((i : ℕ) → getD d i 0 < 256) → g .units ≡ 8 → b + 8 ≤ g .blocks
       → EightBlocks g d b r
   octet-is f h s u l =
       record {
-        clear = λ z. (u, l, λ k j. sym (byte-of k j) ∙ all-zero (take 8 (drop at d)) (sym f ∙ z) k);
+        clear = λ z. (u, l, λ k j. sym (byte-of g d b at e k j) ∙ all-zero (take 8 (drop at d)) (sym f ∙ z) k);
         full = λ z. (
           u,
           l,
-          λ k j. sym (byte-of k j) ∙ all-full 8 (take 8 (drop at d)) (eight-long h)
-              (λ i m. subst (λ (x : ℕ). x < 256) (sym (byte-of i m)) (s (256 * g .start + (b + i)))) (ap (λ (x : ℕ). x + 1) (sym f ∙ z)) k j,
+          λ k j. sym (byte-of g d b at e k j) ∙ all-full 8 (take 8 (drop at d)) (eight-long g d b at e h)
+              (λ i m. subst (λ (x : ℕ). x < 256) (sym (byte-of g d b at e i m)) (s (256 * g .start + (b + i)))) (ap (λ (x : ℕ). x + 1) (sym f ∙ z)) k j,
         );
       }
 

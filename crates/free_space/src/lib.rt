@@ -104,7 +104,7 @@ fn octet(image: &[u8], g: Geometry, b: usize) -> u64
     if g.blocks < b + 8 {
         return 1;
     }
-    layout::eight(image, 256 * g.start + b)
+    layout::eight(image, layout::gat_at(image, g, b))
 }
 
 // Eight bytes that are all FFH.
@@ -133,7 +133,7 @@ fn pass(image: &[u8], g: Geometry) -> Seen
             b += 8;
             continue;
         }
-        seen = block(layout::wide(image[256 * g.start + b]), g.units, seen);
+        seen = block(layout::gat_byte(image, g, b), g.units, seen);
         b += 1;
     }
     ended(seen)

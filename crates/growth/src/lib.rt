@@ -58,10 +58,8 @@ fn put_extension(image: &mut [u8], g: Geometry, p: usize, e: usize, x: usize, wr
     if !writes {
         return;
     }
-    let hash = image[256 * (g.start + 1) + p];
-    let before = 256 * (g.start + 2 + e % 32) + 32 * (e / 32);
-    image[before + 0x1e] = 0xfe;
-    image[before + 0x1f] = x as u8;
+    let hash = layout::wide(image[layout::hit_at(image, g, p)]);
+    layout::set_link(image, g, e, layout::HANDS_ON, x);
     let entry: [u8; 32] = [
         0x90,
         e as u8,
@@ -96,14 +94,9 @@ fn put_extension(image: &mut [u8], g: Geometry, p: usize, e: usize, x: usize, wr
         0xff,
         0xff,
     ];
-    copy::put_part(
-        image,
-        256 * (g.start + 2 + x % 32) + 32 * (x / 32),
-        &entry,
-        0,
-        32,
-    );
-    image[256 * (g.start + 1) + x] = hash;
+    let at = layout::entry_at(image, g, x);
+    copy::put_part(image, at, &entry, 0, 32);
+    layout::set_hit(image, g, x, hash);
 }
 
 // Where a new run starts: at the lowest free granule, of which none is below `next`; or at the low end of the longest free stretch, of which none
@@ -235,9 +228,10 @@ fn too_few_slots(image: &mut [u8], g: Geometry, p: usize, e: usize, k: usize, lo
         }
     }
     let mut gat = [0u8; 192];
-    copy::put_part(&mut gat, 0, image, 256 * g.start, 192);
+    let at = layout::gat_at(image, g, 0);
+    copy::put_part(&mut gat, 0, image, at, 192);
     let r = take_granules(image, g, p, e, k, lowest, false);
-    copy::put_part(image, 256 * g.start, &gat, 0, 192);
+    copy::put_part(image, at, &gat, 0, 192);
     r
 }
 

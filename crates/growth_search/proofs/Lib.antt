@@ -1,3 +1,4 @@
+pub mod Enough
 pub mod Search
 pub mod Low
 pub mod ClearFrom

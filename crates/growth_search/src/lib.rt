@@ -29,12 +29,19 @@ pub fn too_few(image: &[u8], g: Geometry, k: usize) -> bool
 {
     let mut n = 0;
     let mut b = g.blocks;
+    while 8 <= b {
+        if k <= n {
+            return false;
+        }
+        b -= 8;
+        n = n + space::free_in_eight(image, g, b);
+    }
     while 0 < b {
         if k <= n {
             return false;
         }
         b -= 1;
-        n = n + space::clear_bits(layout::wide(image[256 * g.start + b]), g.units);
+        n = n + space::clear_bits(layout::gat_byte(image, g, b), g.units);
     }
     n < k
 }

@@ -1,7 +1,7 @@
--- A run cut into its blocks: how far a loop over them is, and the mask of a block's part.
+-- A run cut into its blocks: how far a loop over them is.
 use mathlib.Core.Path.{_≡_, ap, _∙_}
 use mathlib.Core.List.{List, _++_}
-use Prim.Native.Nat.{ℕ, _+_, _-_, _*_, _/_, _%_, _^_, _≤_, _<_}
+use Prim.Native.Nat.{ℕ, _+_, _-_, _*_, _/_, _%_, _≤_, _<_}
 use native.Mathlib.Omega.{arith}
 use native.Mathlib.Nat.{add-zero, div-add-mod', mul-add-div-right, mul-add-mod-self-right, div-eq-of-lt, mod-eq-of-lt, mod-lt, add-mul, one-mul}
 use native.Mathlib.Nat.{le-of-mul-le-mul-right}
@@ -11,10 +11,6 @@ use Rattle.meaning.specs.Layout.{granules, mostBlocks}
 use Rattle.meaning.specs.declared.Geometry.{Geometry}
 use Rattle.layout.specs.Room.{Room}
 use Rattle.lists.specs.Tests.{count-append}
-
--- n bits from bit u on, as the code has them
-abbrev pub coded : ℕ → ℕ → ℕ
-coded n u = (1 * 2 ^ n % 18446744073709551616 - 1) * 2 ^ u % 18446744073709551616
 
 -- unit u of block b
 pub block-of : {units : ℕ} (b u : ℕ) → u < units → (b * units + u) / units ≡ b

@@ -7,33 +7,13 @@ use native.Mathlib.Omega.{arith}
 use native.Mathlib.Nat.{div-add-mod'}
 use lib.Bits.{bitAnd}
 use lib.Dec.{eqb}
-use borrow.Author.Tests.{eq-eqb, ne-eqb}
 use Rattle.meaning.specs.Lists.{count, some}
-use Rattle.meaning.specs.Bits.{digit, bit}
+use Rattle.meaning.specs.Bits.{bit}
 use Rattle.meaning.specs.Layout.{taken, byte}
 use Rattle.meaning.specs.declared.Geometry.{Geometry}
-use Rattle.lists.specs.Below.{allBelow, all-below, alike, alike-eq}
-use Rattle.space.proofs.Blocks.{coded, block-of, unit-of, Cut, cut-start, cut-count, cut-step}
-
--- one of n bits from bit u on is set, by computing every case
-unfoldable anyBit : ℕ → ℕ → ℕ → Bool
-unfolding digit
-anyBit x u n = some (λ k. bit k x) (count u n)
-
-unfoldable met : ℕ → ℕ → ℕ → Bool
-met u n x = alike (not (eqb (bitAnd x (coded n u)) 0)) (anyBit x u n)
-
-met-all : allBelow 9 (λ u. allBelow (9 - u) (λ n. allBelow 256 (met u n))) ≡ true
-unfolding met anyBit digit alike
-met-all = refl
-
-module _ (x u n : ℕ) (h : x < 256) (k : u + n ≤ 8) where
-  any-bit : not (eqb (bitAnd x (coded n u)) 0) ≡ some (λ k. bit k x) (count u n)
-  unfolding met anyBit
-  any-bit =
-      alike-eq _ _ (all-below 256 (met u n)
-      (all-below (9 - u) (λ n. allBelow 256 (met u n)) (all-below 9 (λ u. allBelow (9 - u) (λ n. allBelow 256 (met u n))) met-all u (omega arith)) n
-      (omega arith)) x h)
+use Rattle.space.specs.Marks.{mask}
+use Rattle.space.proofs.Masks.{any-bit}
+use Rattle.space.proofs.Blocks.{block-of, unit-of, Cut, cut-start, cut-count, cut-step}
 
 pub some-append : (p : ℕ → Bool) (xs ys : List ℕ) → some p (xs ++ ys) ≡ (some p xs || some p ys)
 some-append p [] ys = refl
@@ -56,10 +36,10 @@ module _ (g : Geometry) (d : List ℕ) where
       ∙ ap (λ (t : Bool). bit u x || t) (block-some b (u + 1) n (omega arith))
 
   -- as the code tests it
-  pub units-some : (b u n : ℕ) {x : ℕ} → u + n ≤ g .units → g .units ≤ 8 → x ≡ byte d (256 * g .start + b) → x < 256
-      → not (eqb (bitAnd x (coded n u)) 0) ≡ some (taken g d) (count (b * g .units + u) n)
-  units-some b u n {x} h k e l =
-      any-bit x u n l (omega arith) ∙ ap (λ (y : ℕ). some (λ j. bit j y) (count u n)) e ∙ sym (block-some b u n h)
+  pub units-some : (b u n : ℕ) {x m : ℕ} → u + n ≤ g .units → g .units ≤ 8 → x ≡ byte d (256 * g .start + b) → x < 256 → m ≡ mask u n
+      → not (eqb (bitAnd x m) 0) ≡ some (taken g d) (count (b * g .units + u) n)
+  units-some b u n {x} {m} h k e l q =
+      any-bit x u n l (omega arith) q ∙ ap (λ (y : ℕ). some (λ j. bit j y) (count u n)) e ∙ sym (block-some b u n h)
 
   -- none of the blocks before has one
   pub record LookingThrough (a n b u left : ℕ) : Type 0 where

@@ -1,55 +1,19 @@
 -- Granules of one block, taken or given back one by one, are one store of its GAT byte, and those of a run go block by block.
 use mathlib.Core.Path.{_≡_, refl, sym, ap, _∙_}
-use mathlib.Core.List.{List, [], _∷_}
+use mathlib.Core.List.{List}
 use mathlib.Core.Bool.{Bool, true, false}
 use Prim.Native.Nat.{ℕ, zero, suc, _+_, _-_, _*_, _/_, _%_, _≤_, _<_}
 use native.Mathlib.Omega.{arith}
 use native.Mathlib.Nat.{div-add-mod'}
-use lib.Bits.{bitAnd, bitOr}
-use lib.Dec.{eqb, ltb}
 use lib.ListN.{length, getD, set, length-set}
 use lib.Seq.{getD-set-same, set-set, set-getD}
-use borrow.Author.Tests.{eqb-true, ltb-true}
-use Rattle.meaning.specs.Lists.{all, count, through}
-use Rattle.meaning.specs.Bits.{putDigit}
+use Rattle.meaning.specs.Lists.{count, through}
 use Rattle.meaning.specs.Layout.{granules, takeGranule, freeGranule, gatAt, byte}
 use Rattle.meaning.specs.declared.Geometry.{Geometry}
-use Rattle.layout.specs.Room.{Room, Read}
-use Rattle.lists.specs.Below.{allBelow, all-below}
-use Rattle.lists.specs.Tests.{all-at}
+use Rattle.layout.specs.Room.{Room}
 use Rattle.space.specs.Marks.{putBit, mark}
 use Rattle.space.proofs.Folds.{through-append}
-use Rattle.space.proofs.Blocks.{coded, block-of, unit-of, Cut, cut-start, cut-inside, cut-count, cut-step}
-
--- Bits of a byte put by a mask, by computing every case ------------------------------------------------------------------------
-
-unfoldable put : Bool → ℕ → ℕ → ℕ → ℕ
-unfolding putDigit
-put s x u n = through (putBit s) x (count u n)
-
-unfoldable masked : ℕ → ℕ → ℕ → Bool
-masked u n x =
-    all (eqb (bitOr x (coded n u)) (put true x u n) ∷ ltb (bitOr x (coded n u)) 256
-    ∷ eqb (x - bitAnd x (coded n u)) (put false x u n) ∷ ltb (x - bitAnd x (coded n u)) 256 ∷ [])
-
-masked-all : allBelow 9 (λ u. allBelow (9 - u) (λ n. allBelow 256 (masked u n))) ≡ true
-unfolding masked put putDigit all
-masked-all = refl
-
-module _ (x u n : ℕ) (h : x < 256) (k : u + n ≤ 8) where
-  every-byte : masked u n x ≡ true
-  every-byte =
-      all-below 256 (masked u n)
-      (all-below (9 - u) (λ n. allBelow 256 (masked u n))
-      (all-below 9 (λ u. allBelow (9 - u) (λ n. allBelow 256 (masked u n))) masked-all u (omega arith)) n (omega arith)) x h
-
-  pub bits-set : {s : Bool} → s ≡ true → Read (through (putBit s) x (count u n)) (bitOr x (coded n u))
-  unfolding masked put
-  bits-set e = rw e (record { is = eqb-true _ _ (all-at _ every-byte 0); small = ltb-true _ _ (all-at _ every-byte 1) })
-
-  pub bits-clear : {s : Bool} → s ≡ false → Read (through (putBit s) x (count u n)) (x - bitAnd x (coded n u))
-  unfolding masked put
-  bits-clear e = rw e (record { is = eqb-true _ _ (all-at _ every-byte 2); small = ltb-true _ _ (all-at _ every-byte 3) })
+use Rattle.space.proofs.Blocks.{block-of, unit-of, Cut, cut-start, cut-inside, cut-count, cut-step}
 
 -- One block --------------------------------------------------------------------------------------------------------------------
 

@@ -1,5 +1,5 @@
 -- A granule taken or given back, as one definition over which of the two it is: so that what is done to many is said once.
-use Prim.Native.Nat.{ℕ}
+use Prim.Native.Nat.{ℕ, _-_, _*_, _^_}
 use mathlib.Core.Bool.{Bool, cond}
 use mathlib.Core.List.{List}
 use Rattle.meaning.specs.Bits.{putDigit}
@@ -13,3 +13,7 @@ putBit set x u = putDigit x u (cond set 1 0)
 -- granule n taken, or given back
 abbrev pub mark : Geometry → Bool → List ℕ → ℕ → List ℕ
 mark g set d n = cond set (takeGranule g d n) (freeGranule g d n)
+
+-- n bits from bit u on, as one number
+abbrev pub mask : ℕ → ℕ → ℕ
+mask u n = (2 ^ n - 1) * 2 ^ u

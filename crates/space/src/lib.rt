@@ -13,9 +13,9 @@ ghost use Rattle.meaning.specs.Entries.{entryGranules};
 ghost use Rattle.meaning.specs.Chain.{chainFrom, chain, owned};
 ghost use Rattle.layout.specs.Room.{Room, Slot, Read};
 ghost use Rattle.seek.specs.Seek.{Walkable, Used};
-ghost use Rattle.space.specs.Clear.{clearBits};
+ghost use Rattle.space.specs.Clear.{clearBits, freeIn};
 ghost use Rattle.space.specs.Keeps.{Keeps};
-ghost use Rattle.space.specs.Marks.{putBit, mark};
+ghost use Rattle.space.specs.Marks.{putBit, mark, mask};
 
 // Clears bit 4 of an entry, and its HIT byte.
 pub fn kill_entry(image: &mut [u8], g: Geometry, s: usize)
@@ -27,12 +27,20 @@ pub fn kill_entry(image: &mut [u8], g: Geometry, s: usize)
     layout::set_hit(image, g, s, 0);
 }
 
+// n bits from bit u on.
+fn mask(u: usize, n: usize) -> usize
+    requires { ⌜ u + n ≤ 8 ⌝ }
+    ensures { λ r. ⌜ Read (mask u n) r ⌝ }
+{
+    ((1 << n) - 1) << u
+}
+
 // A GAT byte with n bits from bit u on put: set, or clear.
 fn put_bits(byte: usize, u: usize, n: usize, set: bool) -> usize
     requires { ⌜ (byte < 256) × (u + n ≤ 8) ⌝ }
     ensures { λ r. ⌜ Read (through (putBit set) byte (count u n)) r ⌝ }
 {
-    let bits = ((1 << n) - 1) << u;
+    let bits = mask(u, n);
     if set {
         return byte | bits;
     }
@@ -86,8 +94,7 @@ fn units_taken(image: &[u8], g: Geometry, b: usize, u: usize, n: usize) -> bool
     requires { ⌜ (256 * g .start + b < length (now image)) × (u + n ≤ g .units) × (g .units ≤ mostUnits) ⌝ }
     ensures { λ r. ⌜ r ≡ some (taken g (now (image .entry))) (count (b * g .units + u) n) ⌝ }
 {
-    let mask = ((1 << n) - 1) << u;
-    layout::gat_byte(image, g, b) & mask != 0
+    layout::gat_byte(image, g, b) & mask(u, n) != 0
 }
 
 // Whether one of n granules from a on is taken, block by block.
@@ -238,10 +245,23 @@ pub fn block_taken(image: &[u8], g: Geometry, n: usize) -> bool
     if n % g.units != 0 {
         return false;
     }
-    all_set(layout::wide(image[256 * g.start + n / g.units]), g.units)
+    all_set(layout::gat_byte(image, g, n / g.units), g.units)
 }
 
-// How many granules are free, by one pass over the GAT, a byte at a time: the listing asks for the number alone, and the pass of
+// 1 in each of eight bytes.
+const ONE_EACH: u64 = 72340172838076673;
+
+// How many granules of eight blocks from block b on are free: what is set of their bits is counted in one number.
+pub fn free_in_eight(image: &[u8], g: Geometry, b: usize) -> usize
+    requires { ⌜ Room g (now image) × (b + 8 ≤ g .blocks) ⌝ }
+    ensures { λ r. ⌜ (r ≡ freeIn g (now (image .entry)) (b * g .units) (8 * g .units)) × (r ≤ 64) ⌝ }
+{
+    let x = layout::eight(image, layout::gat_at(image, g, b));
+    let bits = mask(0, g.units) as u64 * ONE_EACH;
+    8 * g.units - (u64::count_ones(x & bits) as usize)
+}
+
+// How many granules are free, by one pass over the GAT, eight bytes at a time: the listing asks for the number alone, and the pass of
 // `free_space`, which looks for the longest stretch too, would cost it its time. From the last block on, as a growth counts
 // (`growth_search`), so that the same laws serve both.
 pub fn free_count(image: &[u8], g: Geometry) -> usize
@@ -250,9 +270,13 @@ pub fn free_count(image: &[u8], g: Geometry) -> usize
 {
     let mut n = 0;
     let mut b = g.blocks;
+    while 8 <= b {
+        b -= 8;
+        n = n + free_in_eight(image, g, b);
+    }
     while 0 < b {
         b -= 1;
-        n = n + clear_bits(layout::wide(image[256 * g.start + b]), g.units);
+        n = n + clear_bits(layout::gat_byte(image, g, b), g.units);
     }
     n
 }

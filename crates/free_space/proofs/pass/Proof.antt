@@ -12,7 +12,7 @@ use Rattle.free_space.proofs.block.Reads as block-reads
 use Rattle.free_space.proofs.ended.Reads as ended-reads
 use Rattle.free_space.proofs.longer.Reads as longer-reads
 use Rattle.free_space.proofs.octet.Reads as octet-reads
-use Rattle.layout.proofs.wide.Reads as wide-reads
+use Rattle.layout.proofs.gat_byte.Reads as gat-byte-reads
 
 abbrev Inv-loop : tie.InvT-loop
 Inv-loop image g seen₀ b₀ seen b = (b ≤ g .blocks) × (seen .free + seen .here ≤ 8 * b) × Going g image b seen
@@ -83,51 +83,37 @@ loop-again-2 c =
       rw (c .ended .ensures) (eight-full _ _ (p .units-low) _ _ (octet .ensures) (l .inv .2) (c .before .if3 .taken)),
     )
 
-mul-wide : tie.Need-mul-wide Inv-loop μ-loop
-mul-wide c =
-    let c₈ = c .before .before .before .before .before .before .before .before in let p = c₈ .pre in
+gat-byte-requires : tie.Need-gat-byte-requires Inv-loop μ-loop
+gat-byte-requires c κs =
+    let c₇ = c .before .before .before .before .before .before .before in let p = c₇ .pre in
     let r = p in omega arith
-
-add-wide : tie.Need-add-wide Inv-loop μ-loop
-add-wide c =
-    let c₈ = c .before .before .before .before .before .before .before .before in let p = c₈ .pre in
-    let r = p in omega arith
-
-shared-slice-read-wide : tie.Need-shared-slice-read-wide Inv-loop μ-loop
-shared-slice-read-wide c =
-    let c₅ = c .before .before .before .before .before in let if1 = c₅ .if1 in
-    let c₉ = c₅ .before .before .before .before in let p = c₉ .pre in
-    omega (arith, p .inside, if1 .taken)
-
-wide-requires : tie.Need-wide-requires Inv-loop μ-loop
-wide-requires c κs = search needs
 
 block-requires : tie.Need-block-requires Inv-loop μ-loop
 block-requires c κs =
-    let c₆ = c .before .before .before .before .before .before in let if1 = c₆ .if1 in
-    let c₈ = c₆ .before .before in let l = c₈ .loop in
-    let c₁₀ = c₈ .before .before in let p = c₁₀ .pre in
+    let c₄ = c .before .before .before .before in let if1 = c₄ .if1 in
+    let c₆ = c₄ .before .before in let l = c₆ .loop in
+    let c₈ = c₆ .before .before in let p = c₈ .pre in
     (record { few = omega (arith, l .inv .1, if1 .taken, p .blocks-high, p .units-high) }, p .units-low, p .units-high)
 
 add-b-3 : tie.Need-add-b-3 Inv-loop μ-loop
 add-b-3 c =
-    let c₉ = c .before .before .before .before .before .before .before .before .before in let l = c₉ .loop in
-    let c₁₁ = c₉ .before .before in let p = c₁₁ .pre in
+    let c₇ = c .before .before .before .before .before .before .before in let l = c₇ .loop in
+    let c₉ = c₇ .before .before in let p = c₉ .pre in
     omega (arith, l .inv .0, p .blocks-high)
 
 loop-less-3 : tie.Need-loop-less-3 Inv-loop μ-loop
 loop-less-3 c =
-    let c₇ = c .before .before .before .before .before .before .before in let if1 = c₇ .if1 in
+    let c₅ = c .before .before .before .before .before in let if1 = c₅ .if1 in
     omega (arith, if1 .taken)
 
 loop-again-3 : tie.Need-loop-again-3 Inv-loop μ-loop
 loop-again-3 c =
-    let c₇ = c .before .before .before .before .before .before .before in let if1 = c₇ .if1 in
-    let c₉ = c₇ .before .before in let l = c₉ .loop in
-    let c₁₁ = c₉ .before .before in let p = c₁₁ .pre in (
+    let c₅ = c .before .before .before .before .before in let if1 = c₅ .if1 in
+    let c₇ = c₅ .before .before in let l = c₇ .loop in
+    let c₉ = c₇ .before .before in let p = c₉ .pre in (
       omega (arith, if1 .taken),
       omega (arith, l .inv .1, c .block .ensures .few, p .units-high),
-      going-step _ _ (p .units-low) (l .inv .2) (if1 .taken) (c .before .wide .ensures .is) (c .block .ensures .is),
+      going-step _ _ (p .units-low) (l .inv .2) (if1 .taken) (c .before .gat-byte .ensures .is) (c .block .ensures .is),
     )
 
 ended-requires-2 : tie.Need-ended-requires-2 Inv-loop μ-loop
@@ -156,10 +142,7 @@ pass-spec =
     add-b-2
     loop-less-2
     loop-again-2
-    mul-wide
-    add-wide
-    shared-slice-read-wide
-    wide-requires
+    gat-byte-requires
     block-requires
     add-b-3
     loop-less-3

@@ -1,4 +1,4 @@
-use Rattle.space.proofs.Clear.{Freed, freed-start, freed-step, freed-end}
+use Rattle.space.proofs.Clear.{Freed, freed-start, freed-more, freed-step, freed-end}
 use borrow.Author.Needs.{needs}
 use native.Mathlib.Omega.{arith}
 use Prim.Native.Nat.{ℕ, _-_, _≤_, _*_}
@@ -7,8 +7,9 @@ use Rattle.space.proofs.free_count.Statement.{statement}
 use Rattle.space.proofs.free_count.Tie as tie
 use Rattle.space.proofs.free_count.Reads as reads
 use Rattle.space.proofs.free_count.Lts as lts
-use Rattle.layout.proofs.wide.Reads as wide-reads
+use Rattle.layout.proofs.gat_byte.Reads as gat-byte-reads
 use Rattle.space.proofs.clear_bits.Reads as clear-bits-reads
+use Rattle.space.proofs.free_in_eight.Reads as free-in-eight-reads
 
 abbrev Inv-loop : tie.InvT-loop
 Inv-loop image g n₀ b₀ n b = (b ≤ g .blocks) × (n ≤ 8 * (g .blocks - b)) × Freed g image b n
@@ -16,48 +17,55 @@ Inv-loop image g n₀ b₀ n b = (b ≤ g .blocks) × (n ≤ 8 * (g .blocks - b)
 abbrev μ-loop : tie.MeasureT-loop
 μ-loop image g n₀ b₀ n b = b
 
-loop-holds : tie.Need-loop-holds Inv-loop μ-loop
+abbrev Inv-loop2 : tie.InvT-loop2
+Inv-loop2 image g n₀ b₀ n b = (b ≤ g .blocks) × (n ≤ 8 * (g .blocks - b)) × Freed g image b n
+
+abbrev μ-loop2 : tie.MeasureT-loop2
+μ-loop2 image g n₀ b₀ n b = b
+
+loop-holds : tie.Need-loop-holds Inv-loop μ-loop Inv-loop2 μ-loop2
 loop-holds c = (omega arith, omega arith, freed-start _ _)
 
-sub-b : tie.Need-sub-b Inv-loop μ-loop
-sub-b c = omega arith
+free-in-eight-requires : tie.Need-free-in-eight-requires Inv-loop μ-loop Inv-loop2 μ-loop2
+free-in-eight-requires c κs = (c .before .before .before .pre, omega arith)
 
-mul-wide : tie.Need-mul-wide Inv-loop μ-loop
-mul-wide c = let r = c .before .before .before .before .pre in omega arith
+add-n : tie.Need-add-n Inv-loop μ-loop Inv-loop2 μ-loop2
+add-n c = let r = c .before .before .before .before .pre in let k = c .free-in-eight .ensures .1 in omega arith
 
-add-wide : tie.Need-add-wide Inv-loop μ-loop
-add-wide c = let r = c .before .before .before .before .pre in omega arith
-
-shared-slice-read-wide : tie.Need-shared-slice-read-wide Inv-loop μ-loop
-shared-slice-read-wide c = let r = c .before .before .before .before .before .pre in omega arith
-
-wide-requires : tie.Need-wide-requires Inv-loop μ-loop
-wide-requires c κs = search needs
-
-clear-bits-requires : tie.Need-clear-bits-requires Inv-loop μ-loop
-clear-bits-requires c κs =
-    let c₆ = c .before .before .before .before .before .before in let p = c₆ .pre in
-    p .units-high
-
-add-n : tie.Need-add-n Inv-loop μ-loop
-add-n c = let r = c .before .before .before .before .before .before .before .pre in let k = c .clear-bits .ensures .1 in omega arith
-
-loop-less : tie.Need-loop-less Inv-loop μ-loop
+loop-less : tie.Need-loop-less Inv-loop μ-loop Inv-loop2 μ-loop2
 loop-less c = omega arith
 
-loop-again : tie.Need-loop-again Inv-loop μ-loop
-loop-again c = (
-  omega arith,
-  (let k = c .clear-bits .ensures .1 in omega arith),
-  freed-step _ _
-      (c .before .before .before .before .before .before .before .pre .units-low) (c .before .before .before .before .before .loop .inv .2)
-      (c .before .before .before .before .loop-test .taken) (c .before .wide .ensures .is) (c .clear-bits .ensures .0),
-)
+loop-again : tie.Need-loop-again Inv-loop μ-loop Inv-loop2 μ-loop2
+loop-again c = (omega arith, (let k = c .free-in-eight .ensures .1 in omega arith), freed-more _ _ 8 (c .before .before .loop .inv .2) (omega arith)
+    (c .free-in-eight .ensures .0))
 
-returns : tie.Need-returns Inv-loop μ-loop
-returns c = let z : c .before .loop .b ≡ 0 = omega arith in
-    freed-end _ _ (subst (λ (j : ℕ). Freed (c .before .before .before .args .g) (c .before .before .before .args .image .now) j (c .before .loop .n)) z
-    (c .before .loop .inv .2))
+loop2-holds : tie.Need-loop2-holds Inv-loop μ-loop Inv-loop2 μ-loop2
+loop2-holds c = c .before .loop .inv
+
+sub-b : tie.Need-sub-b Inv-loop μ-loop Inv-loop2 μ-loop2
+sub-b c = omega arith
+
+gat-byte-requires : tie.Need-gat-byte-requires Inv-loop μ-loop Inv-loop2 μ-loop2
+gat-byte-requires c κs = let r = c .before .before .before .before .before .pre in omega arith
+
+clear-bits-requires : tie.Need-clear-bits-requires Inv-loop μ-loop Inv-loop2 μ-loop2
+clear-bits-requires c κs = c .before .before .before .before .before .before .pre .units-high
+
+add-n-2 : tie.Need-add-n-2 Inv-loop μ-loop Inv-loop2 μ-loop2
+add-n-2 c = let r = c .before .before .before .before .before .before .before .pre in let k = c .clear-bits .ensures .1 in omega arith
+
+loop2-less : tie.Need-loop2-less Inv-loop μ-loop Inv-loop2 μ-loop2
+loop2-less c = omega arith
+
+loop2-again : tie.Need-loop2-again Inv-loop μ-loop Inv-loop2 μ-loop2
+loop2-again c = (omega arith, (let k = c .clear-bits .ensures .1 in omega arith), freed-step _ _
+    (c .before .before .before .before .before .before .before .pre .units-low) (c .before .before .before .loop2 .inv .2)
+    (c .before .before .loop2-test .taken) (c .before .gat-byte .ensures .is) (c .clear-bits .ensures .0))
+
+returns : tie.Need-returns Inv-loop μ-loop Inv-loop2 μ-loop2
+returns c = let z : c .before .loop2 .b ≡ 0 = omega arith in
+    freed-end _ _ (subst (λ (j : ℕ). Freed (c .before .before .before .before .before .args .g)
+        (c .before .before .before .before .before .args .image .now) j (c .before .loop2 .n)) z (c .before .loop2 .inv .2))
 
 pub free-count-spec : {M : Type 1} → statement M
 free-count-spec =
@@ -65,14 +73,18 @@ free-count-spec =
     (tie.spec
     Inv-loop
     μ-loop
+    Inv-loop2
+    μ-loop2
     loop-holds
-    sub-b
-    mul-wide
-    add-wide
-    shared-slice-read-wide
-    wide-requires
-    clear-bits-requires
+    free-in-eight-requires
     add-n
     loop-less
     loop-again
+    loop2-holds
+    sub-b
+    gat-byte-requires
+    clear-bits-requires
+    add-n-2
+    loop2-less
+    loop2-again
     returns)
