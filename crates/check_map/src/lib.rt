@@ -17,7 +17,7 @@ pub fn gat_map(image: &[u8], g: Geometry, map: &mut [u8; 192])
     requires { ⌜ Room g (now image) × (length (now map) ≡ mostBlocks) ⌝ }
     ensures { λ _. ⌜ GatMap g (now (image .entry)) (now (map .exit)) ⌝ }
 {
-    let gat = 256 * g.start;
+    let gat = layout::gat_at(image, g, 0);
     let mut b = 0;
     while b < 192 {
         map[b] = 255 - image[gat + b];

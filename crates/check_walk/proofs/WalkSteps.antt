@@ -4,25 +4,27 @@ use mathlib.Core.List.{List, [], _∷_, _++_}
 use mathlib.Core.Bool.{Bool, true, false, not, cond, _&&_, _||_, and-true}
 use Prim.Native.Nat.{ℕ, zero, suc, _+_, _-_, _*_, _/_, _%_, _≤_, _<_}
 use native.Mathlib.Omega.{arith}
-use native.Mathlib.Nat.{zero-add, add-mul, one-mul, mul-le-mul}
+use native.Mathlib.Nat.{add-mul, one-mul, mul-le-mul}
 use lib.ListN.{length, getD, set, length-append}
 use lib.Dec.{eqb, ltb, leb}
-use borrow.Author.Tests.{le-leb, lt-leb, lt-ltb, le-ltb, eqb-true, not-false}
+use borrow.Author.Tests.{le-leb, lt-leb, lt-ltb, le-ltb, ne-eqb, eqb-true, not-false}
 use Rattle.meaning.specs.Lists.{count, every, each, all, any}
 use Rattle.lists.specs.Members.{length-count}
-use Rattle.meaning.specs.Layout.{granules, field, hit, isSlot, granuleSectors, mostBlocks}
+use Rattle.layout.proofs.HasRoom.{slot-of, entry-fits}
+use Rattle.meaning.specs.Layout.{granules, field, hit, isSlot, entryAt, granuleSectors, mostBlocks}
 use Rattle.meaning.specs.Entries.{runs, runsFrom, block, pairByte, runStart, runLength, runGranules, entryGranules, marker, link}
 use Rattle.meaning.specs.Chain.{chainFrom}
 use Rattle.meaning.specs.Consistent.{pairsHold, runsHold}
 use Rattle.meaning.specs.declared.Geometry.{Geometry}
-use Rattle.layout.specs.Room.{Room}
+use Rattle.layout.specs.Room.{Room, Slot}
 use Rattle.layout.proofs.OneStep.{runs-more, runs-none}
 use Rattle.lists.specs.Tests.{and-l, and-r, all-at, all-yes, all-no, all-one, all-none, any-skip, every-count, is-no, is-yes, any-one, not-both, on, off}
 use Rattle.lists.specs.Tests.{all-out}
 use Rattle.check_map.specs.Marks.{marked, allows, MarksPlaces}
 use Rattle.check_map.proofs.MarkLists.{marked-append, allows-append}
 use Rattle.lists.specs.Members
-use Rattle.check_walk.specs.Walk.{TakesRun, runHolds, unused, entryFits, Entered, Walked, goesOn, markerHolds, chainHolds, onward, granulesOf}
+use Rattle.check_walk.specs.Walk.{Place, TakesRun, runHolds, unused, entryFits, pairsOf, Entered, Walked, goesOn, markerHolds, chainHolds, onward}
+use Rattle.check_walk.specs.Walk.{granulesOf}
 use Rattle.check_walk.specs.declared.Pairs.{Pairs}
 use Rattle.lists.specs.Ranges.{all-four, every-append, every-alike, every-true, count-cut, each-snoc, every-snoc, left-more}
 
@@ -231,6 +233,32 @@ module _ (g : Geometry) (d : List ℕ) (s : ℕ) where
       let z : runs g d s ≡ 4 = j .none ∙ runs-none g d s 4 in
       whole {k = 4} j z (sym (pairs-past z (omega arith)))
 
+  -- what was taken, told as one number
+  pub told : {least k n : ℕ} {m₀ m : List ℕ} → k ≤ 4 → Entered g d s least m₀ m (record { ok = true; runs = k; granules = n }) → Entered g d s least m₀ m
+      (pairsOf (16 * n + (8 + k)))
+  told {k = k} {n = n} h w =
+      let a : (16 * n + (8 + k)) % 8 ≡ k = omega arith in
+      let b : (16 * n + (8 + k)) / 16 ≡ n = omega arith in
+      let f : n ≤ 128 = w .few in
+      record {
+        few = omega arith;
+        answer = ap not (ne-eqb (16 * n + (8 + k)) 0 (λ q. omega arith)) ∙ w .answer;
+        runs-is = λ q. a ∙ w .runs-is refl;
+        granules-is = λ q. b ∙ w .granules-is refl;
+        map = λ q. w .map refl;
+      }
+
+  -- the pairs are not as they must be
+  pub not-so : {least : ℕ} {m₀ m m″ : List ℕ} {p : Pairs} → Entered g d s least m₀ m p → p .ok ≡ false → Entered g d s least m₀ m″ (pairsOf 0)
+  not-so w e =
+      record {
+        few = omega arith;
+        answer = sym e ∙ w .answer;
+        runs-is = λ q. not-both q refl;
+        granules-is = λ q. not-both q refl;
+        map = λ q. not-both q refl;
+      }
+
 -- The chain ---------------------------------------------------------------------------------------------------------------
 
 module _ (g : Geometry) (d : List ℕ) where
@@ -246,6 +274,14 @@ module _ (g : Geometry) (d : List ℕ) where
   pub goes-slot : (h s : ℕ) → goesOn g d h s ≡ true → isSlot g d (link g d s) ≡ true
   unfolding goesOn
   goes-slot h s e = all-at _ e 2
+
+  -- so its entry has a place
+  pub goes-place : (h s : ℕ) {t at : ℕ} → goesOn g d h s ≡ true → t ≡ link g d s → at ≡ entryAt g t → Place g d t at
+  goes-place h s e f q = record { slot = slot-of g d _ (ap (isSlot g d) f ∙ goes-slot h s e); is = q }
+
+  -- and the place of a slot's entry is one of the image
+  pub slot-in : {s : ℕ} → Room g d → Slot g d s → entryAt g s ≤ length d
+  slot-in r s = let e = entry-fits g d _ r s in omega arith
 
   goes-marker : (h s : ℕ) → goesOn g d h s ≡ true → marker g d s ≡ 0xfe
   unfolding goesOn
@@ -361,14 +397,6 @@ module _ (g : Geometry) (d : List ℕ) where
           = ap {B = ℕ} length (split s n) ∙ length-append (entryGranules g d s) rest ∙ ap (λ (j : ℕ). j + length rest) (sym (w .granules-is ok)) in
           let f : owned + length (granulesOf g d (chainFrom g d left s)) ≡ owned + p .granules + length rest = omega arith in
           ap (λ (j : ℕ). leb sectors (granuleSectors g * j)) f
-
-  -- the same, of the primary entry: no granule was met before
-  pub walked-first : {least sectors : ℕ} (h s : ℕ) {left : ℕ} {m m₁ m₂ met met₂ : List ℕ} {p : Pairs} {r : Bool} → (left ≡ 0 → ⊥) → 1 ≤ getD met s 0 → Entered
-      g d s least m m₁ p → not (p .ok) ≡ false
-      → Walked g d least sectors (p .granules) (markerHolds g d h s (chainHolds g d h (left - 1) (link g d s)))
-      (onward g d s (chainFrom g d (left - 1) (link g d s))) m₁ m₂ (set met s 0) met₂ r
-      → Walked g d least sectors 0 (chainHolds g d h left s) (chainFrom g d left s) m m₂ met met₂ r
-  walked-first h s {p = p} n l w t k = walked-entry h s n l w t (rw (zero-add (p .granules)) k)
 
   -- the marker is FFH
   pub walked-end : {least sectors owned w : ℕ} (h s : ℕ) (rest : Bool) (cs : List ℕ) {x : ℕ} {m met : List ℕ} → w ≡ granuleSectors g → x ≡ marker g d s → x ≡

@@ -2,7 +2,7 @@
 use mathlib.Core.Path.{_≡_}
 use mathlib.Core.Bool.{Bool, true, false, not, cond}
 use mathlib.Core.List.{List, [], _∷_}
-use Prim.Native.Nat.{ℕ, zero, suc, _+_, _*_, _≤_}
+use Prim.Native.Nat.{ℕ, zero, suc, _+_, _*_, _/_, _%_, _≤_}
 use lib.Dec.{eqb, ltb, leb}
 use lib.ListN.{length}
 use Rattle.meaning.specs.Lists.{each, all, any}
@@ -18,6 +18,10 @@ use Rattle.check_walk.specs.declared.Pairs.{Pairs}
 pub record Place (g : Geometry) (d : List ℕ) (s at : ℕ) : Type 0 where
   pub slot : Slot g d s
   pub is : at ≡ entryAt g s
+
+-- the geometry of six numbers: the walk is handed these, and no struct
+abbrev pub geometry : ℕ → ℕ → ℕ → ℕ → Bool → ℕ → Geometry
+geometry b u s n y w = record { blocks = b; units = u; start = s; noPassword = n; system = y; granule = w }
 
 abbrev pub runsOf : Geometry → List ℕ → ℕ → ℕ
 runsOf g d s = runs g d s
@@ -45,6 +49,10 @@ pub record TakesRun (g : Geometry) (d : List ℕ) (s k least : ℕ) (m m′ : Li
 -- what an entry by itself must hold, with the map m
 abbrev pub entryFits : Geometry → List ℕ → ℕ → ℕ → List ℕ → Bool
 entryFits g d s least m = all (pairsHold g d s ∷ runsHold g d s ∷ allows m least 0 (entryGranules g d s) ∷ [])
+
+-- what an entry's pairs gave, told as one number: 16 times the granules, and 8 and the runs beside them; 0 where they are not as they must be
+abbrev pub pairsOf : ℕ → Pairs
+pairsOf r = record { ok = not (eqb r 0); runs = r % 8; granules = r / 16 }
 
 pub record Entered (g : Geometry) (d : List ℕ) (s least : ℕ) (m m′ : List ℕ) (r : Pairs) : Type 0 where
   pub few : r .granules ≤ 128

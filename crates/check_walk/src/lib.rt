@@ -10,14 +10,14 @@ ghost use Rattle.meaning.specs.Entries.{link, marker};
 ghost use Rattle.meaning.specs.Chain.{chainFrom};
 ghost use Rattle.layout.specs.Room.{Room, Slot, Read};
 ghost use Rattle.check_map.specs.Owners.{standing};
-ghost use Rattle.check_walk.specs.Walk.{Place, runsOf, TakesRun, Entered, Walked, unused, goesOn, markerHolds, chainHolds, onward};
+ghost use Rattle.check_walk.specs.Walk.{geometry, Place, runsOf, pairsOf, TakesRun, Entered, Walked, unused, goesOn, markerHolds, chainHolds, onward};
 
-// Where the entry of a slot is. By a sum of its own, and not `layout::entry_at`, which costs the check of a long chain 0.4 %.
+// Where the entry of a slot is.
 pub fn entry_at(image: &[u8], g: Geometry, s: usize) -> usize
     requires { ⌜ Room g (now image) × Slot g (now image) s ⌝ }
     ensures { λ r. ⌜ Place g (now (image .entry)) s r ⌝ }
 {
-    256 * (g.start + 2 + s % 32) + 32 * (s / 32)
+    layout::entry_at(image, g, s)
 }
 
 // Byte k of the entry of slot s, which is at `at`.
@@ -95,37 +95,76 @@ pub struct Pairs {
     pub granules: usize,
 }
 
-// Takes the granules of an entry off the map.
+// Takes the granules of an entry off the map. One number tells what its pairs gave: 16 times the granules, and 8 and the runs beside
+// them; or 0 where they are not as they must be.
+// The walk below hands on what it is handed itself, and says why that is no slice and no struct.
+fn take_pairs(
+    image: &&[u8],
+    blocks: usize,
+    units: usize,
+    start: usize,
+    noPassword: u16,
+    system: bool,
+    granule: usize,
+    s: usize,
+    at: usize,
+    map: &mut [u8; 192],
+) -> usize
+    requires { ⌜ Room (geometry blocks units start noPassword system granule) (now (now image))
+        × Place (geometry blocks units start noPassword system granule) (now (now image)) s at ⌝ }
+    ensures { λ r. ⌜ Entered (geometry blocks units start noPassword system granule) (now (now (image .entry))) s 1
+        (standing (geometry blocks units start noPassword system granule) (now (now (image .entry))) (now (map .entry)))
+        (standing (geometry blocks units start noPassword system granule) (now (now (image .entry))) (now (map .exit))) (pairsOf r) ⌝ }
+{
+    let g = Geometry {
+        blocks: blocks,
+        units: units,
+        start: start,
+        noPassword: noPassword,
+        system: system,
+        granule: granule,
+    };
+    let mut k = 0;
+    let mut n = 0;
+    while k < 4 {
+        if field_at(*image, g, s, at, layout::BLOCKS + 2 * k) == layout::ENDS {
+            if !no_runs(*image, g, s, at, k) {
+                return 0;
+            }
+            return 16 * n + (8 + k);
+        }
+        let len = take_run(*image, g, s, at, k, map);
+        if len == 0 {
+            return 0;
+        }
+        n += len;
+        k += 1;
+    }
+    16 * n + 12
+}
+
+// The same with what was taken as named parts.
 pub fn take_runs(image: &[u8], g: Geometry, s: usize, at: usize, map: &mut [u8; 192]) -> Pairs
     requires { ⌜ Room g (now image) × Place g (now image) s at ⌝ }
     ensures { λ r. ⌜ Entered g (now (image .entry)) s 1 (standing g (now (image .entry)) (now (map .entry)))
         (standing g (now (image .entry)) (now (map .exit))) r ⌝ }
 {
-    let mut k = 0;
-    let mut n = 0;
-    while k < 4 {
-        if field_at(image, g, s, at, layout::BLOCKS + 2 * k) == layout::ENDS {
-            return Pairs {
-                ok: no_runs(image, g, s, at, k),
-                runs: k,
-                granules: n,
-            };
-        }
-        let len = take_run(image, g, s, at, k, map);
-        if len == 0 {
-            return Pairs {
-                ok: false,
-                runs: 0,
-                granules: 0,
-            };
-        }
-        n += len;
-        k += 1;
-    }
+    let p = take_pairs(
+        &image,
+        g.blocks,
+        g.units,
+        g.start,
+        g.noPassword,
+        g.system,
+        g.granule,
+        s,
+        at,
+        map,
+    );
     Pairs {
-        ok: true,
-        runs: 4,
-        granules: n,
+        ok: p != 0,
+        runs: p % 8,
+        granules: p / 16,
     }
 }
 
@@ -144,7 +183,7 @@ fn goes_on(image: &[u8], g: Geometry, s: usize, at: usize, runs: usize, h: usize
     if !layout::is_slot(image, g, t) {
         return false;
     }
-    let to = entry_at(image, g, t);
+    let to = layout::entry_at(image, g, t);
     if field_at(image, g, t, to, layout::FLAGS) != 0x90 {
         return false;
     }
@@ -157,7 +196,7 @@ fn goes_on(image: &[u8], g: Geometry, s: usize, at: usize, runs: usize, h: usize
     layout::hit(image, g, t) == h
 }
 
-// The whole chain of a file: its primary entry here, its extensions by the walk below. A file without extensions needs no call.
+// The whole chain of a file, from its primary entry on.
 pub fn file_walk(
     image: &[u8],
     g: Geometry,
@@ -169,32 +208,25 @@ pub fn file_walk(
     map: &mut [u8; 192],
     met: &mut [u8; 256],
 ) -> bool
-    requires { ⌜ Room g (now image) × Place g (now image) s at × (left ≡ 0 → ⊥) × (128 * left ≤ 65536) ⌝ }
+    requires { ⌜ Room g (now image) × Place g (now image) s at × (128 * left ≤ 65536) ⌝ }
     ensures { λ r. ⌜ Walked g (now (image .entry)) 1 sectors 0 (chainHolds g (now (image .entry)) h left s)
         (chainFrom g (now (image .entry)) left s) (standing g (now (image .entry)) (now (map .entry))) (standing g (now (image .entry)) (now (map .exit)))
         (now (met .entry)) (now (met .exit)) r ⌝ }
 {
-    if met[s] < 1 {
-        return false;
-    }
-    met[s] = 0;
-    let p = take_runs(image, g, s, at, map);
-    if !p.ok {
-        return false;
-    }
-    if field_at(image, g, s, at, layout::MARKER) == layout::ENDS {
-        return sectors <= layout::granule_sectors(g) * p.granules;
-    }
-    marker_walk(
-        image,
-        g,
+    entry_walk(
+        &image,
+        g.blocks,
+        g.units,
+        g.start,
+        g.noPassword,
+        g.system,
+        g.granule,
         s,
         at,
-        p.runs,
-        left - 1,
+        left,
         h,
         sectors,
-        p.granules,
+        0,
         map,
         met,
     )
@@ -202,9 +234,16 @@ pub fn file_walk(
 
 // The entry of slot s, of a file with HIT byte h, and what its marker leads to: at most `left` entries. `met` has 1 for each slot not
 // met so far, and `owned` granules were met before. The sector count must fit the granules of the whole chain.
+// This walk and the next call each other, and each call is the last thing that is done: a compiler makes one loop of both where nothing that is
+// handed over stands in the caller's frame. A struct and a slice would: hence the numbers of the geometry, and the image by a reference to it.
 fn entry_walk(
-    image: &[u8],
-    g: Geometry,
+    image: &&[u8],
+    blocks: usize,
+    units: usize,
+    start: usize,
+    noPassword: u16,
+    system: bool,
+    granule: usize,
     s: usize,
     at: usize,
     left: usize,
@@ -214,9 +253,14 @@ fn entry_walk(
     map: &mut [u8; 192],
     met: &mut [u8; 256],
 ) -> bool
-    requires { ⌜ Room g (now image) × Place g (now image) s at × (owned + 128 * left ≤ 65536) ⌝ }
-    ensures { λ r. ⌜ Walked g (now (image .entry)) 1 sectors owned (chainHolds g (now (image .entry)) h left s)
-        (chainFrom g (now (image .entry)) left s) (standing g (now (image .entry)) (now (map .entry))) (standing g (now (image .entry)) (now (map .exit)))
+    requires { ⌜ Room (geometry blocks units start noPassword system granule) (now (now image))
+        × Place (geometry blocks units start noPassword system granule) (now (now image)) s at
+        × (owned + 128 * left ≤ 65536) ⌝ }
+    ensures { λ r. ⌜ Walked (geometry blocks units start noPassword system granule) (now (now (image .entry))) 1 sectors owned
+        (chainHolds (geometry blocks units start noPassword system granule) (now (now (image .entry))) h left s)
+        (chainFrom (geometry blocks units start noPassword system granule) (now (now (image .entry))) left s)
+        (standing (geometry blocks units start noPassword system granule) (now (now (image .entry))) (now (map .entry)))
+        (standing (geometry blocks units start noPassword system granule) (now (now (image .entry))) (now (map .exit)))
         (now (met .entry)) (now (met .exit)) r ⌝ }
 {
     if left == 0 {
@@ -226,23 +270,47 @@ fn entry_walk(
         return false;
     }
     met[s] = 0;
-    let p = take_runs(image, g, s, at, map);
-    if !p.ok {
+    let p = take_pairs(
+        image,
+        blocks,
+        units,
+        start,
+        noPassword,
+        system,
+        granule,
+        s,
+        at,
+        map,
+    );
+    if p == 0 {
         return false;
     }
-    if field_at(image, g, s, at, layout::MARKER) == layout::ENDS {
-        return sectors <= layout::granule_sectors(g) * (owned + p.granules);
+    let g = Geometry {
+        blocks: blocks,
+        units: units,
+        start: start,
+        noPassword: noPassword,
+        system: system,
+        granule: granule,
+    };
+    if field_at(*image, g, s, at, layout::MARKER) == layout::ENDS {
+        return sectors <= layout::granule_sectors(g) * (owned + p / 16);
     }
     marker_walk(
         image,
-        g,
+        blocks,
+        units,
+        start,
+        noPassword,
+        system,
+        granule,
         s,
         at,
-        p.runs,
+        p % 8,
         left - 1,
         h,
         sectors,
-        owned + p.granules,
+        owned + p / 16,
         map,
         met,
     )
@@ -250,8 +318,13 @@ fn entry_walk(
 
 // The marker of slot s, which does not end the file, and what it leads to.
 fn marker_walk(
-    image: &[u8],
-    g: Geometry,
+    image: &&[u8],
+    blocks: usize,
+    units: usize,
+    start: usize,
+    noPassword: u16,
+    system: bool,
+    granule: usize,
     s: usize,
     at: usize,
     runs: usize,
@@ -262,17 +335,49 @@ fn marker_walk(
     map: &mut [u8; 192],
     met: &mut [u8; 256],
 ) -> bool
-    requires { ⌜ Room g (now image) × Place g (now image) s at × (runs ≡ runsOf g (now image) s)
-        × (owned + 128 * left ≤ 65536) × (marker g (now image) s ≡ 0xff → ⊥) ⌝ }
-    ensures { λ r. ⌜ Walked g (now (image .entry)) 1 sectors owned
-        (markerHolds g (now (image .entry)) h s (chainHolds g (now (image .entry)) h left (link g (now (image .entry)) s)))
-        (onward g (now (image .entry)) s (chainFrom g (now (image .entry)) left (link g (now (image .entry)) s)))
-        (standing g (now (image .entry)) (now (map .entry))) (standing g (now (image .entry)) (now (map .exit))) (now (met .entry)) (now (met .exit)) r ⌝ }
+    requires { ⌜ Room (geometry blocks units start noPassword system granule) (now (now image))
+        × Place (geometry blocks units start noPassword system granule) (now (now image)) s at
+        × (runs ≡ runsOf (geometry blocks units start noPassword system granule) (now (now image)) s)
+        × (owned + 128 * left ≤ 65536) × (marker (geometry blocks units start noPassword system granule) (now (now image)) s ≡ 0xff → ⊥) ⌝ }
+    ensures { λ r. ⌜ Walked (geometry blocks units start noPassword system granule) (now (now (image .entry))) 1 sectors owned
+        (markerHolds (geometry blocks units start noPassword system granule) (now (now (image .entry))) h s
+        (chainHolds (geometry blocks units start noPassword system granule) (now (now (image .entry))) h left
+        (link (geometry blocks units start noPassword system granule) (now (now (image .entry))) s)))
+        (onward (geometry blocks units start noPassword system granule) (now (now (image .entry))) s
+        (chainFrom (geometry blocks units start noPassword system granule) (now (now (image .entry))) left
+        (link (geometry blocks units start noPassword system granule) (now (now (image .entry))) s)))
+        (standing (geometry blocks units start noPassword system granule) (now (now (image .entry))) (now (map .entry)))
+        (standing (geometry blocks units start noPassword system granule) (now (now (image .entry))) (now (map .exit)))
+        (now (met .entry)) (now (met .exit)) r ⌝ }
 {
-    if !goes_on(image, g, s, at, runs, h) {
+    let g = Geometry {
+        blocks: blocks,
+        units: units,
+        start: start,
+        noPassword: noPassword,
+        system: system,
+        granule: granule,
+    };
+    if !goes_on(*image, g, s, at, runs, h) {
         return false;
     }
-    let t = field_at(image, g, s, at, layout::LINK);
-    let to = entry_at(image, g, t);
-    entry_walk(image, g, t, to, left, h, sectors, owned, map, met)
+    let t = field_at(*image, g, s, at, layout::LINK);
+    let to = layout::entry_at(*image, g, t);
+    entry_walk(
+        image,
+        blocks,
+        units,
+        start,
+        noPassword,
+        system,
+        granule,
+        t,
+        to,
+        left,
+        h,
+        sectors,
+        owned,
+        map,
+        met,
+    )
 }

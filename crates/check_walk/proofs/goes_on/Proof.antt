@@ -1,3 +1,5 @@
+use native.Mathlib.Omega.{arith}
+use Rattle.check_walk.proofs.WalkSteps.{slot-in}
 use lib.Dec.{eqb}
 use Prim.Native.Nat.{ℕ}
 use Rattle.check_walk.proofs.WalkSteps.{goes-at}
@@ -13,7 +15,7 @@ use Rattle.check_walk.proofs.goes_on.Reads as reads
 use Rattle.check_walk.proofs.goes_on.Lts as lts
 use Rattle.layout.proofs.hit.Reads as hit-reads
 use Rattle.layout.proofs.is_slot.Reads as is-slot-reads
-use Rattle.check_walk.proofs.entry_at.Reads as entry-at-reads
+use Rattle.layout.proofs.entry_at.Reads as entry-at-reads
 use Rattle.check_walk.proofs.field_at.Reads as field-at-reads
 
 field-at-requires : tie.Need-field-at-requires
@@ -45,12 +47,10 @@ returns-3 c =
     ∙ all-yes (on (field-at .ensures .is) (if1 .left)) _ ∙ all-yes (on (p .2) (if2 .left)) _ ∙ all-no (is-no (c .before .is-slot .ensures) (c .if3 .taken)) _)
 
 entry-at-requires : tie.Need-entry-at-requires
-entry-at-requires c κs =
-    let c₇ = c .before .before .before .before .before .before .before in let p = c₇ .pre in
-    (p .0, slot-of _ _ _ (is-yes (c .before .is-slot .ensures) (c .if3 .left)))
+entry-at-requires c κs = slot-in _ _ (c .before .before .before .before .before .before .before .pre .0) (slot-of _ _ _ (is-yes (c .before .is-slot .ensures) (c .if3 .left)))
 
 field-at-requires-3 : tie.Need-field-at-requires-3
-field-at-requires-3 c κs = search needs
+field-at-requires-3 c κs = (c .before .before .before .before .before .before .before .before .pre .0, record { slot = slot-of _ _ _ (is-yes (c .before .before .is-slot .ensures) (c .before .if3 .left)); is = c .entry-at .ensures }, omega arith)
 
 returns-4 : tie.Need-returns-4
 returns-4 c =
@@ -66,7 +66,7 @@ returns-4 c =
     ∙ all-no (off (c .before .field-at3 .ensures .is) (c .if4 .taken)) _)
 
 field-at-requires-4 : tie.Need-field-at-requires-4
-field-at-requires-4 c κs = search needs
+field-at-requires-4 c κs = (c .before .before .before .before .before .before .before .before .before .before .pre .0, record { slot = slot-of _ _ _ (is-yes (c .before .before .before .before .is-slot .ensures) (c .before .before .before .if3 .left)); is = c .before .before .entry-at .ensures }, omega arith)
 
 returns-5 : tie.Need-returns-5
 returns-5 c =
@@ -83,7 +83,7 @@ returns-5 c =
     ∙ all-yes (on (field-at3 .ensures .is) (c .before .before .if4 .left)) _ ∙ all-no (off (c .before .field-at4 .ensures .is) (c .if5 .taken)) _)
 
 field-at-requires-5 : tie.Need-field-at-requires-5
-field-at-requires-5 c κs = search needs
+field-at-requires-5 c κs = (c .before .before .before .before .before .before .before .before .before .before .before .before .pre .0, record { slot = slot-of _ _ _ (is-yes (c .before .before .before .before .before .before .is-slot .ensures) (c .before .before .before .before .before .if3 .left)); is = c .before .before .before .before .entry-at .ensures }, omega arith)
 
 returns-6 : tie.Need-returns-6
 returns-6 c =
