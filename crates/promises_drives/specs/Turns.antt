@@ -83,7 +83,8 @@ module _ (p : Pair) (k : ℕ) (is : IsDrive k) (n : Name) (s : Side) where
   at-is i = List·getD-map (handleOn k) (s .handles) i noHandle
 
   -- what each call by handle answers by the list's handle
-  pub read-is : (a : Amount) (i : ℕ) (b : List ℕ) → let h = handleAt k (lift k s .handles) i in let r = Read.readOf g d (held i) (howMany a (held i .len) b) b in
+  pub read-is : (a : Amount) (i : ℕ) (b : List ℕ) → let h = handleAt k (lift k s .handles) i in
+      let r = Read.readOf g d (held i) (howMany a (held i .len) b) b in
       _≡_ {A = DriveAnswer × List ℕ} (readOf p h (howMany a (h .handle .len) b) b) (answered k (r .0), r .1)
   unfolding readOf
   read-is a i b = ap (λ (h : DriveHandle). readOf p h (howMany a (h .handle .len) b) b) (at-is i) ∙ on-drive _ _ k is

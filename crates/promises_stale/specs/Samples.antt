@@ -19,7 +19,8 @@ use Rattle.meaning.specs.declared.Mode.the-variants.{Sequential}
 use Rattle.load.specs.Cases
 use Rattle.load.specs.Load.{loadRecord}
 use Rattle.promises.specs.Promises.{Good}
-use Rattle.together.specs.Statement.{Step, creates, moves, reads, writes, known, answer, handleAt, Turn, one, none, left, World, start, after, Accepted, AllBring}
+use Rattle.together.specs.Statement.{Step, creates, moves, reads, writes, known, answer, handleAt, AllBring}
+use Rattle.together.specs.Statement.{Turn, one, none, left, World, start, after, Accepted}
 use Rattle.promises_stale.specs.Statement.{handedBack, NoneStale}
 use Rattle.promises_stale.specs.Kept.{nothing-stale}
 

@@ -23,7 +23,8 @@ use Rattle.drives.specs.Pair.{Pair, pair, geometry, image}
 use Rattle.promises_drives.specs.Statement.{IsDrive, zeroth, first}
 use Rattle.promises_drives.specs.Interleaved.{answer, DriveWorld, start, next, Accepted, bare}
 use Rattle.promises_drives.specs.Turns.{lift, bare-lift, drive-told, at-is, read-is, sector-is, number-is}
-use Rattle.promises_drives.specs.Demand3.{InDrive, on-0, on-1, both, turn-next, all-taken, alone, beside, first-next, second-next, first-turn, second-turn, runs}
+use Rattle.promises_drives.specs.Demand3.{InDrive, on-0, on-1, both, turn-next, all-taken}
+use Rattle.promises_drives.specs.Demand3.{alone, beside, first-next, second-next, first-turn, second-turn, runs}
 use Rattle.promises_stale.specs.Statement as stale
 use Rattle.promises_stale.specs.Statement.{puts, Own}
 use Rattle.promises_stale.specs.Kept.{nothing-stale}
