@@ -61,7 +61,7 @@ module _ (g : Geometry) (d : List ℕ) (some : 0 < g .units) (few : g .units ≤
       let r : freeIn g d (b * u) (suc n * u) ≡ clearBits u x + freeIn g d ((b + 1) * u) (n * u) =
       ap (freeIn g d (b * u)) (suc-mul n u ∙ (let z : n * u + u ≡ u + n * u = omega arith in z)) ∙ free-append g d (b * u) u (n * u)
       ∙ ap₂ (λ (y z : ℕ). y + freeIn g d z (n * u)) (free-block g d some b ∙ ap (clearBits u) (ap (gatByte g d) (sym (add-zero b)) ∙ sym (e 0
-          (omega arith))))
+      (omega arith))))
       (block-next b u) in
       let c = clear-ones u x in
       let h = free-eights n (b + 1) xs (omega arith)

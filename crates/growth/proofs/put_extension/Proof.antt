@@ -51,11 +51,11 @@ returns-2 c = let a = c .before .before .before .before .before .before .before 
     .before .before .before .before .before .before .args in let link = c .before .before .before .before .before .before .before .before .before
     .before .before .before .before .set-link .ensures in let put = c .before .before .before .before .before .before .put-part .ensures in
     stored (λ l. l) (a .writes) _ _ _ (c .before .before .before .before .before .before .before .before .before .before .before .before .before
-        .before .before .before .before .before .before .if1 .left)
+    .before .before .before .before .before .before .if1 .left)
     (extension-put (a .g) (a .p) (a .image .now) (a .e) (a .x)
-        (c .before .before .before .before .before .before .before .before .before .before .before .before .before .before .before .wide .ensures .is
-        ∙ ap (byte (a .image .now)) (c .before .before .before .before .before .before .before .before .before .before .before .before .before
-        .before .before .before .before .hit-at .ensures)) link
+    (c .before .before .before .before .before .before .before .before .before .before .before .before .before .before .before .wide .ensures .is
+    ∙ ap (byte (a .image .now)) (c .before .before .before .before .before .before .before .before .before .before .before .before .before
+    .before .before .before .before .hit-at .ensures)) link
     (c .before .before .before .before .before .before .before .before .before .entry-at .ensures) put (c .before .before .set-hit .ensures))
 
 pub put-extension-spec : {M : Type 1} → statement M

@@ -28,14 +28,17 @@ same-length c = search needs
 
 returns : tie.Need-returns
 returns c = let p = c .before .before .before .before .pre in (
-      pairs-left _ _ (c .before .before .before .before .args .lowest) (p .0) (p .1) (p .2) (c .before .runs .ensures .is) (omega
-          (arith, c .before .runs .ensures .small, c .if1 .taken)),
-      refl,
-    )
+  pairs-left _ _ (c .before .before .before .before .args .lowest) (p .0) (p .1) (p .2) (c .before .runs .ensures .is) (omega
+      (arith, c .before .runs .ensures .small, c .if1 .taken)),
+  refl,
+)
 
 last-run-requires : tie.Need-last-run-requires
-last-run-requires c κs = let p = c .before .before .before .before .before .pre in (walks _ _ _ (p .0) .0 .room, tail-slot _ _
-    (c .before .before .before .before .before .args .lowest) (p .0) (p .1))
+last-run-requires c κs = let p = c .before .before .before .before .before .pre in (
+  walks _ _ _ (p .0) .0 .room,
+  tail-slot _ _
+      (c .before .before .before .before .before .args .lowest) (p .0) (p .1),
+)
 
 sub-if2 : tie.Need-sub-if2
 sub-if2 c = search needs
@@ -58,13 +61,16 @@ returns-2 c = let p = c .before .before .before .before .before .before .before 
     c .before .before .before .before .before .before .before .if1 .left in (
       lengthening _ _ (c .before .before .before .before .before .before .before .before .before .before .before .args .lowest) (p .0) (p .1)
           (p .2) l (c .before .before .before .if2 .taken) (c .before .all-clear .ensures .yes (c .if3 .taken))
-      (let m = l .many in let r = n .is in let s = n .small in omega arith),
+          (let m = l .many in let r = n .is in let s = n .small in omega arith),
       refl,
     )
 
 gat-at-requires : tie.Need-gat-at-requires
-gat-at-requires c κs = let p = c .before .before .before .before .before .before .before .before .before .pre in omega (arith, gat-inside _ _
-    (walks _ _ _ (p .0) .0 .room))
+gat-at-requires c κs = let p = c .before .before .before .before .before .before .before .before .before .pre in omega (
+  arith,
+  gat-inside _ _
+      (walks _ _ _ (p .0) .0 .room),
+)
 
 slice-aggregate-put-part : tie.Need-slice-aggregate-put-part
 slice-aggregate-put-part c = search needs

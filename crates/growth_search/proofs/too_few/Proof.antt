@@ -70,7 +70,8 @@ loop2-again : tie.Need-loop2-again Inv-loop μ-loop Inv-loop2 μ-loop2
 loop2-again c = (
   omega arith,
   (let k = c .clear-bits .ensures .1 in omega arith),
-  freed-step _ _ (c .before .before .before .before .before .before .before .before .pre .units-low) (c .before .before .before .before .loop2 .inv .2) (c .before .before .before .loop2-test .taken)
+  freed-step _ _ (c .before .before .before .before .before .before .before .before .pre .units-low)
+      (c .before .before .before .before .loop2 .inv .2) (c .before .before .before .loop2-test .taken)
       (c .before .gat-byte .ensures .is) (c .clear-bits .ensures .0),
 )
 

@@ -23,8 +23,11 @@ div-gat-byte : tie.Need-div-gat-byte
 div-gat-byte c = search needs
 
 gat-byte-requires : tie.Need-gat-byte-requires
-gat-byte-requires c κs = omega (arith, gat-low (c .before .before .before .before .args .g) (c .before .before .before .before .args .n)
-    (omega arith) (omega arith))
+gat-byte-requires c κs = omega (
+  arith,
+  gat-low (c .before .before .before .before .args .g) (c .before .before .before .before .args .n)
+      (omega arith) (omega arith),
+)
 
 all-set-requires : tie.Need-all-set-requires
 all-set-requires c κs = search needs

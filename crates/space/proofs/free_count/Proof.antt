@@ -36,8 +36,12 @@ loop-less : tie.Need-loop-less Inv-loop μ-loop Inv-loop2 μ-loop2
 loop-less c = omega arith
 
 loop-again : tie.Need-loop-again Inv-loop μ-loop Inv-loop2 μ-loop2
-loop-again c = (omega arith, (let k = c .free-in-eight .ensures .1 in omega arith), freed-more _ _ 8 (c .before .before .loop .inv .2) (omega arith)
-    (c .free-in-eight .ensures .0))
+loop-again c = (
+  omega arith,
+  (let k = c .free-in-eight .ensures .1 in omega arith),
+  freed-more _ _ 8 (c .before .before .loop .inv .2) (omega arith)
+      (c .free-in-eight .ensures .0),
+)
 
 loop2-holds : tie.Need-loop2-holds Inv-loop μ-loop Inv-loop2 μ-loop2
 loop2-holds c = c .before .loop .inv
@@ -58,14 +62,18 @@ loop2-less : tie.Need-loop2-less Inv-loop μ-loop Inv-loop2 μ-loop2
 loop2-less c = omega arith
 
 loop2-again : tie.Need-loop2-again Inv-loop μ-loop Inv-loop2 μ-loop2
-loop2-again c = (omega arith, (let k = c .clear-bits .ensures .1 in omega arith), freed-step _ _
-    (c .before .before .before .before .before .before .before .pre .units-low) (c .before .before .before .loop2 .inv .2)
-    (c .before .before .loop2-test .taken) (c .before .gat-byte .ensures .is) (c .clear-bits .ensures .0))
+loop2-again c = (
+  omega arith,
+  (let k = c .clear-bits .ensures .1 in omega arith),
+  freed-step _ _
+      (c .before .before .before .before .before .before .before .pre .units-low) (c .before .before .before .loop2 .inv .2)
+      (c .before .before .loop2-test .taken) (c .before .gat-byte .ensures .is) (c .clear-bits .ensures .0),
+)
 
 returns : tie.Need-returns Inv-loop μ-loop Inv-loop2 μ-loop2
 returns c = let z : c .before .loop2 .b ≡ 0 = omega arith in
     freed-end _ _ (subst (λ (j : ℕ). Freed (c .before .before .before .before .before .args .g)
-        (c .before .before .before .before .before .args .image .now) j (c .before .loop2 .n)) z (c .before .loop2 .inv .2))
+    (c .before .before .before .before .before .args .image .now) j (c .before .loop2 .n)) z (c .before .loop2 .inv .2))
 
 pub free-count-spec : {M : Type 1} → statement M
 free-count-spec =

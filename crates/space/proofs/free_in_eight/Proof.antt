@@ -30,24 +30,24 @@ cast-result c = let q = eight-free (c .before .before .before .before .before .a
     (c .before .before .before .before .before .pre .0 .units-high) (c .before .before .before .before .before .args .b) _
     (c .before .before .before .gat-at .ensures)
     (let r = c .before .before .before .before .before .pre in let a = c .before .before .before .gat-at .ensures in omega arith) (λ i. omega
-        (arith, c .before .before .before .before .shared-slice-known .given i)) (c .before .before .eight .ensures)
-        (c .before .mask .ensures .is) in let r = c .before .before .before .before .before .pre in omega arith
+    (arith, c .before .before .before .before .shared-slice-known .given i)) (c .before .before .eight .ensures)
+    (c .before .mask .ensures .is) in let r = c .before .before .before .before .before .pre in omega arith
 
 sub-result : tie.Need-sub-result
 sub-result c = let q = eight-free (c .before .before .before .before .before .args .g) (c .before .before .before .before .before .args .image .now)
     (c .before .before .before .before .before .pre .0 .units-low) (c .before .before .before .before .before .pre .0 .units-high)
     (c .before .before .before .before .before .args .b) _ (c .before .before .before .gat-at .ensures)
     (let r = c .before .before .before .before .before .pre in let a = c .before .before .before .gat-at .ensures in omega arith) (λ i. omega
-        (arith, c .before .before .before .before .shared-slice-known .given i)) (c .before .before .eight .ensures)
-        (c .before .mask .ensures .is) in omega arith
+    (arith, c .before .before .before .before .shared-slice-known .given i)) (c .before .before .eight .ensures)
+    (c .before .mask .ensures .is) in omega arith
 
 returns : tie.Need-returns
 returns c = let q = eight-free (c .before .before .before .before .before .args .g) (c .before .before .before .before .before .args .image .now)
     (c .before .before .before .before .before .pre .0 .units-low) (c .before .before .before .before .before .pre .0 .units-high)
     (c .before .before .before .before .before .args .b) _ (c .before .before .before .gat-at .ensures)
     (let r = c .before .before .before .before .before .pre in let a = c .before .before .before .gat-at .ensures in omega arith) (λ i. omega
-        (arith, c .before .before .before .before .shared-slice-known .given i)) (c .before .before .eight .ensures)
-        (c .before .mask .ensures .is) in let r = c .before .before .before .before .before .pre in (omega arith, omega arith)
+    (arith, c .before .before .before .before .shared-slice-known .given i)) (c .before .before .eight .ensures)
+    (c .before .mask .ensures .is) in let r = c .before .before .before .before .before .pre in (omega arith, omega arith)
 
 pub free-in-eight-spec : {M : Type 1} → statement M
 free-in-eight-spec =
