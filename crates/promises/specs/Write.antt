@@ -28,7 +28,6 @@ use Rattle.laws.specs.Words.{words}
 -- a place of the directory is in one of its granules
 pub in-directory : (g : Geometry) (d : List ℕ) (i : ℕ) → g .start % granuleSectors g ≡ 0 → Places.Dir g d → 256 * g .start ≤ i → i < 256 *
     (g .start + directorySectors g d) → In (i / granuleBytes g) (directoryGranules g d)
-unfolding words
 in-directory g d i e f a b = Members.in-count (i / granuleBytes g) (g .start / granuleSectors g) (roundUp (directorySectors g d) (granuleSectors g))
     (Sizes.touched-from g i (g .start) a) (Sizes.touched-to g i (g .start) (directorySectors g d) e b)
 
