@@ -13,7 +13,7 @@ pub fn copy_hit(image: &[u8], g: Geometry, met: &mut [u8; 256])
     requires { ⌜ Room g (now image) × (length (now met) ≡ 256) ⌝ }
     ensures { λ _. ⌜ HitCopied g (now (image .entry)) (now (met .exit)) ⌝ }
 {
-    let hit = 256 * (g.start + 1);
+    let hit = layout::hit_at(image, g, 0);
     let mut s = 0;
     while s < 256 {
         met[s] = image[hit + s];

@@ -25,11 +25,7 @@ fn alone(image: &[u8], g: Geometry, s: usize, at: usize, first: usize, next: &[u
     let mut x = first;
     while 0 < x {
         let q = x - 1;
-        if layout::same_name(
-            image,
-            256 * (g.start + 2 + q % 32) + 32 * (q / 32) + layout::NAME,
-            &image[a..e],
-        ) {
+        if layout::same_name(image, layout::name_at(image, g, q), &image[a..e]) {
             return false;
         }
         x = next[q] as usize;
@@ -82,7 +78,7 @@ fn row_differs(image: &[u8], g: Geometry, row: usize, head: &mut [u8], next: &mu
 {
     let first = 32 * row;
     let end = first + (layout::directory_sectors(image, g) - 2);
-    let mut at = 256 * (g.start + 2) + 32 * row;
+    let mut at = layout::entry_at(image, g, first);
     let mut s = first;
     while s < end {
         if !visit(image, g, s, at, head, next) {

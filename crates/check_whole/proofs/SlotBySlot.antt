@@ -148,6 +148,13 @@ pub column-more : {s : ℕ} → s < 256 → columnFrom s ≡ s ∷ columnFrom (s
 unfolding by32
 column-more {s} h = ap (λ (n : ℕ). by32 n s) (let z : (287 - s) / 32 ≡ suc ((287 - (s + 32)) / 32) = omega arith in z)
 
+-- the entry of the slot in the next row, in the same column
+pub next-row : (a s : ℕ) {at : ℕ} → at ≡ a + 32 * (s / 32) → at + 32 ≡ a + 32 * ((s + 32) / 32)
+next-row a s e = omega arith
+
+pub same-column : (s : ℕ) {column : ℕ} → s % 32 ≡ column → (s + 32) % 32 ≡ column
+same-column s e = omega arith
+
 pub column-none : {s : ℕ} → 256 ≤ s → columnFrom s ≡ []
 unfolding by32
 column-none {s} h = ap (λ (n : ℕ). by32 n s) (let z : (287 - s) / 32 ≡ 0 = omega arith in z)

@@ -15,7 +15,7 @@ pub fn length_holds(image: &[u8], g: Geometry) -> bool
     requires { ⌜ FitsImage g (now image) ⌝ }
     ensures { λ r. ⌜ r ≡ lengthHolds g (now (image .entry)) ⌝ }
 {
-    let above = layout::wide(image[256 * (g.start + 1) + 31]);
+    let above = layout::wide(image[layout::hit_at(image, g, 31)]);
     if 20 < above {
         return false;
     }
@@ -39,7 +39,7 @@ fn sector_holds(
     ensures { λ r. ⌜ Seen g (now (image .entry)) (sectorSlots column) (standing g (now (image .entry)) (now (map .entry)))
         (standing g (now (image .entry)) (now (map .exit))) (now (met .entry)) (now (met .exit)) r ⌝ }
 {
-    let mut at = 256 * (g.start + 2 + column);
+    let mut at = layout::entry_at(image, g, column);
     let mut s = column;
     while s < 256 {
         if !check_file::slot_holds(image, g, s, at, map, met, from, bits) {

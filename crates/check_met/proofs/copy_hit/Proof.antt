@@ -1,11 +1,14 @@
 use Rattle.check_met.proofs.SlotMap.{Copying, copying-start, copying-step, copying-end}
+use mathlib.Core.Path.{_∙_}
 use Prim.Native.Nat.{_-_}
+use native.Mathlib.Nat.{add-zero}
 use native.Mathlib.Omega.{arith}
 use borrow.Author.Needs.{needs}
 use Rattle.check_met.proofs.copy_hit.Statement.{statement}
 use Rattle.check_met.proofs.copy_hit.Tie as tie
 use Rattle.check_met.proofs.copy_hit.Reads as reads
 use Rattle.check_met.proofs.copy_hit.Lts as lts
+use Rattle.layout.proofs.hit_at.Reads as hit-at-reads
 
 abbrev Inv-loop : tie.InvT-loop
 Inv-loop image met₀ hit s₀ met s = Copying image met hit s
@@ -13,14 +16,11 @@ Inv-loop image met₀ hit s₀ met s = Copying image met hit s
 abbrev μ-loop : tie.MeasureT-loop
 μ-loop image met₀ hit s₀ met s = 256 - s
 
-add-hit : tie.Need-add-hit Inv-loop μ-loop
-add-hit c = search needs
-
-mul-hit : tie.Need-mul-hit Inv-loop μ-loop
-mul-hit c = search needs
+hit-at-requires : tie.Need-hit-at-requires Inv-loop μ-loop
+hit-at-requires c κs = omega (arith, c .before .pre .0 .directory)
 
 loop-holds : tie.Need-loop-holds Inv-loop μ-loop
-loop-holds c = copying-start _ _ _ (c .before .pre .1)
+loop-holds c = copying-start _ _ _ (c .before .before .pre .1)
 
 add-met : tie.Need-add-met Inv-loop μ-loop
 add-met c = search needs
@@ -41,7 +41,7 @@ loop-again : tie.Need-loop-again Inv-loop μ-loop
 loop-again c = copying-step (c .before .before .loop .inv) (c .before .loop-test .taken)
 
 returns : tie.Need-returns Inv-loop μ-loop
-returns c = copying-end _ (c .before .loop .inv) (c .loop-test .left)
+returns c = copying-end _ (rw (c .before .before .hit-at .ensures ∙ add-zero _) at (c .before .loop .inv)) (c .loop-test .left)
 
 pub copy-hit-spec : {M : Type 1} → statement M
 copy-hit-spec =
@@ -49,8 +49,7 @@ copy-hit-spec =
     (tie.spec
     Inv-loop
     μ-loop
-    add-hit
-    mul-hit
+    hit-at-requires
     loop-holds
     add-met
     shared-slice-read-met

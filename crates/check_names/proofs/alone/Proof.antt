@@ -9,6 +9,7 @@ use Rattle.check_names.proofs.alone.Statement.{statement}
 use Rattle.check_names.proofs.alone.Tie as tie
 use Rattle.check_names.proofs.alone.Reads as reads
 use Rattle.check_names.proofs.alone.Lts as lts
+use Rattle.layout.proofs.name_at.Reads as name-at-reads
 use Rattle.layout.proofs.same_name.Reads as same-name-reads
 
 abbrev Inv-loop : tie.InvT-loop
@@ -29,40 +30,10 @@ loop-holds c = searching-start _ _ _ _ _ _ (c .before .before .pre .3)
 sub-q : tie.Need-sub-q Inv-loop μ-loop
 sub-q c = search needs
 
-add-same-name : tie.Need-add-same-name Inv-loop μ-loop
-add-same-name c = let a = c .before .before .before .before .before .args in
+name-at-requires : tie.Need-name-at-requires Inv-loop μ-loop
+name-at-requires c κs = let a = c .before .before .before .before .args in
     let w = here (a .g) (a .image .now) (a .next .now) (bucket (a .g) (a .image .now) (keyOf (a .g) (a .image .now) (a .s)) (a .s)) (a .s)
-    (c .before .before .loop .x) (c .before .before .loop .inv) (c .before .loop-test .taken) in
-    let lo = w .slot .low in let he = w .slot .held in omega arith
-
-add-same-name-2 : tie.Need-add-same-name-2 Inv-loop μ-loop
-add-same-name-2 c = let a = c .before .before .before .before .before .args in
-    let w = here (a .g) (a .image .now) (a .next .now) (bucket (a .g) (a .image .now) (keyOf (a .g) (a .image .now) (a .s)) (a .s)) (a .s)
-    (c .before .before .loop .x) (c .before .before .loop .inv) (c .before .loop-test .taken) in
-    let lo = w .slot .low in let he = w .slot .held in omega arith
-
-mul-same-name : tie.Need-mul-same-name Inv-loop μ-loop
-mul-same-name c = let a = c .before .before .before .before .before .args in
-    let w = here (a .g) (a .image .now) (a .next .now) (bucket (a .g) (a .image .now) (keyOf (a .g) (a .image .now) (a .s)) (a .s)) (a .s)
-    (c .before .before .loop .x) (c .before .before .loop .inv) (c .before .loop-test .taken) in
-    let lo = w .slot .low in let he = w .slot .held in omega arith
-
-mul-same-name-2 : tie.Need-mul-same-name-2 Inv-loop μ-loop
-mul-same-name-2 c = let a = c .before .before .before .before .before .args in
-    let w = here (a .g) (a .image .now) (a .next .now) (bucket (a .g) (a .image .now) (keyOf (a .g) (a .image .now) (a .s)) (a .s)) (a .s)
-    (c .before .before .loop .x) (c .before .before .loop .inv) (c .before .loop-test .taken) in
-    let lo = w .slot .low in let he = w .slot .held in omega arith
-
-add-same-name-3 : tie.Need-add-same-name-3 Inv-loop μ-loop
-add-same-name-3 c = let a = c .before .before .before .before .before .args in
-    let w = here (a .g) (a .image .now) (a .next .now) (bucket (a .g) (a .image .now) (keyOf (a .g) (a .image .now) (a .s)) (a .s)) (a .s)
-    (c .before .before .loop .x) (c .before .before .loop .inv) (c .before .loop-test .taken) in
-    let lo = w .slot .low in let he = w .slot .held in omega arith
-
-add-same-name-4 : tie.Need-add-same-name-4 Inv-loop μ-loop
-add-same-name-4 c = let a = c .before .before .before .before .before .args in
-    let w = here (a .g) (a .image .now) (a .next .now) (bucket (a .g) (a .image .now) (keyOf (a .g) (a .image .now) (a .s)) (a .s)) (a .s)
-    (c .before .before .loop .x) (c .before .before .loop .inv) (c .before .loop-test .taken) in
+    (c .before .loop .x) (c .before .loop .inv) (c .loop-test .taken) in
     let lo = w .slot .low in let he = w .slot .held in omega arith
 
 sub-same-name : tie.Need-sub-same-name Inv-loop μ-loop
@@ -91,7 +62,7 @@ returns c = let a = c .before .before .before .before .before .before .before .b
     (compared (a .g) (a .image .now) (a .s) (c .before .before .before .before .before .loop .x - 1) (a .at + 5 + 11 - (a .at + 5)) (a .at)
     (c .before .before .before .before .before .before .before .before .pre .0)
     (c .before .before .before .before .before .before .before .before .pre .1) (w .slot) (omega arith)
-    (c .before .before .before .before .before .before .before .before .pre .2) (c .before .same-name .ensures) ∙ ap not (c .if1 .taken))
+    (c .before .before .before .before .before .before .before .before .pre .2) (rw (c .before .before .before .name-at .ensures) at (c .before .same-name .ensures)) ∙ ap not (c .if1 .taken))
 
 mul-x : tie.Need-mul-x Inv-loop μ-loop
 mul-x c = let a = c .before .before .before .before .before .before .before .before .args in
@@ -133,7 +104,7 @@ loop-again c = let a = c .before .before .before .before .before .before .before
     (compared (a .g) (a .image .now) (a .s) (c .before .before .before .before .before .before .loop .x - 1) (a .at + 5 + 11 - (a .at + 5)) (a .at)
     (c .before .before .before .before .before .before .before .before .before .pre .0)
     (c .before .before .before .before .before .before .before .before .before .pre .1) (w .slot) (omega arith)
-    (c .before .before .before .before .before .before .before .before .before .pre .2) (c .before .before .same-name .ensures) ∙ ap not
+    (c .before .before .before .before .before .before .before .before .before .pre .2) (rw (c .before .before .before .before .name-at .ensures) at (c .before .before .same-name .ensures)) ∙ ap not
     (c .before .if1 .left))
 
 returns-2 : tie.Need-returns-2 Inv-loop μ-loop
@@ -152,12 +123,7 @@ alone-spec =
     add-e
     loop-holds
     sub-q
-    add-same-name
-    add-same-name-2
-    mul-same-name
-    mul-same-name-2
-    add-same-name-3
-    add-same-name-4
+    name-at-requires
     sub-same-name
     part-same-name-start
     part-same-name-end

@@ -10,6 +10,7 @@ use Rattle.check_names.proofs.row_differs.Tie as tie
 use Rattle.check_names.proofs.row_differs.Reads as reads
 use Rattle.check_names.proofs.row_differs.Lts as lts
 use Rattle.layout.proofs.directory_sectors.Reads as directory-sectors-reads
+use Rattle.layout.proofs.entry_at.Reads as entry-at-reads
 use Rattle.check_names.proofs.visit.Reads as visit-reads
 
 abbrev Inv-loop : tie.InvT-loop
@@ -31,20 +32,11 @@ sub-end c = search needs
 add-end : tie.Need-add-end Inv-loop μ-loop
 add-end c = search needs
 
-add-at : tie.Need-add-at Inv-loop μ-loop
-add-at c = search needs
-
-mul-at : tie.Need-mul-at Inv-loop μ-loop
-mul-at c = search needs
-
-mul-at-2 : tie.Need-mul-at-2 Inv-loop μ-loop
-mul-at-2 c = search needs
-
-add-at-2 : tie.Need-add-at-2 Inv-loop μ-loop
-add-at-2 c = search needs
+entry-at-requires : tie.Need-entry-at-requires Inv-loop μ-loop
+entry-at-requires c κs = search needs
 
 loop-holds : tie.Need-loop-holds Inv-loop μ-loop
-loop-holds c = let e = c .before .directory-sectors .ensures in let t = c .before .before .before .before .before .pre .0 .thirty in
+loop-holds c = let e = c .before .directory-sectors .ensures in let r = c .entry-at .ensures in let t = c .before .before .before .before .before .pre .0 .thirty in
     (c .before .before .before .before .before .pre .2, omega arith, omega arith, omega arith, omega arith)
 
 visit-requires : tie.Need-visit-requires Inv-loop μ-loop
@@ -72,8 +64,8 @@ returns c =
     let c₁₅ = c₅ .before .before .before .before .before .before .before .before .before .before in let a = c₁₅ .args in
     row-found (a .g) (a .image .now) (a .row) (visit .ensures) (c .if1 .taken)
 
-add-at-3 : tie.Need-add-at-3 Inv-loop μ-loop
-add-at-3 c = let z = c .before .before .before .before .before .before .before .before .before .loop .inv in let q1 = z .1 in let q2 = z .2 in
+add-at : tie.Need-add-at Inv-loop μ-loop
+add-at c = let z = c .before .before .before .before .before .before .before .before .before .loop .inv in let q1 = z .1 in let q2 = z .2 in
     let q3 = z .3 in let q4 = z .4 in
     let e = c .before .before .before .before .before .before .before .before .before .before .before .directory-sectors .ensures in
     let r = c .before .before .before .before .before .before .before .before .before .before .before .before .before .before .before .pre .0 .directory in
@@ -127,16 +119,13 @@ row-differs-spec =
     directory-sectors-requires
     sub-end
     add-end
-    add-at
-    mul-at
-    mul-at-2
-    add-at-2
+    entry-at-requires
     loop-holds
     visit-requires
     same-length
     same-length-2
     returns
-    add-at-3
+    add-at
     add-s
     loop-less
     loop-again

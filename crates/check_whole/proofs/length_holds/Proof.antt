@@ -8,16 +8,11 @@ use Rattle.check_whole.proofs.length_holds.Reads as reads
 use Rattle.check_whole.proofs.length_holds.Lts as lts
 use Rattle.layout.proofs.granule_sectors.Reads as granule-sectors-reads
 use Rattle.layout.proofs.granules.Reads as granules-reads
+use Rattle.layout.proofs.hit_at.Reads as hit-at-reads
 use Rattle.layout.proofs.wide.Reads as wide-reads
 
-add-wide : tie.Need-add-wide
-add-wide c = search needs
-
-mul-wide : tie.Need-mul-wide
-mul-wide c = search needs
-
-add-wide-2 : tie.Need-add-wide-2
-add-wide-2 c = search needs
+hit-at-requires : tie.Need-hit-at-requires
+hit-at-requires c κs = search needs
 
 shared-slice-read-wide : tie.Need-shared-slice-read-wide
 shared-slice-read-wide c = search needs
@@ -26,10 +21,10 @@ wide-requires : tie.Need-wide-requires
 wide-requires c κs = search needs
 
 returns : tie.Need-returns
-returns c = length-far _ _ (c .before .wide .ensures .is) (c .if1 .taken)
+returns c = length-far _ _ (rw (c .before .before .before .hit-at .ensures) at (c .before .wide .ensures .is)) (c .if1 .taken)
 
 returns-2 : tie.Need-returns-2
-returns-2 c = length-odd _ _ (c .before .before .wide .ensures .is) (c .before .if1 .left) (c .if2 .taken)
+returns-2 c = length-odd _ _ (rw (c .before .before .before .before .hit-at .ensures) at (c .before .before .wide .ensures .is)) (c .before .if1 .left) (c .if2 .taken)
 
 add-result : tie.Need-add-result
 add-result c = search needs
@@ -51,15 +46,13 @@ returns-3 c =
     let c₃ = c .before .before .before in let if2 = c₃ .if2 in
     let c₄ = c₃ .before in let if1 = c₄ .if1 in
     let c₅ = c₄ .before in let wide = c₅ .wide in
-    length-rest _ _ (wide .ensures .is) (if1 .left) (if2 .left) (c .before .granules .ensures .0) (c .granule-sectors .ensures .is)
+    length-rest _ _ (rw (c₅ .before .before .hit-at .ensures) at (wide .ensures .is)) (if1 .left) (if2 .left) (c .before .granules .ensures .0) (c .granule-sectors .ensures .is)
 
 pub length-holds-spec : {M : Type 1} → statement M
 length-holds-spec =
     tie.close
     (tie.spec
-    add-wide
-    mul-wide
-    add-wide-2
+    hit-at-requires
     shared-slice-read-wide
     wide-requires
     returns

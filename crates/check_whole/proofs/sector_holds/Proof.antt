@@ -4,7 +4,7 @@ use Prim.Native.Nat.{_+_, _-_, _*_, _/_, _%_}
 use borrow.Author.Tests.{not-true, not-false}
 use Rattle.check_whole.specs.Slots.{sectorSlots}
 use Rattle.check_whole.proofs.SlotBySlot.{Seeing, seeing-start, seeing-as, seeing-step, seeing-stop, seeing-end, columnFrom, column-are, column-more}
-use Rattle.check_whole.proofs.SlotBySlot.{column-none}
+use Rattle.check_whole.proofs.SlotBySlot.{column-none, next-row, same-column}
 use borrow.Author.Needs.{needs}
 use native.Mathlib.Omega.{arith}
 use Rattle.check_map.specs.Owners.{standing}
@@ -12,6 +12,7 @@ use Rattle.check_whole.proofs.sector_holds.Statement.{statement}
 use Rattle.check_whole.proofs.sector_holds.Tie as tie
 use Rattle.check_whole.proofs.sector_holds.Reads as reads
 use Rattle.check_whole.proofs.sector_holds.Lts as lts
+use Rattle.layout.proofs.entry_at.Reads as entry-at-reads
 use Rattle.check_file.proofs.slot_holds.Reads as slot-holds-reads
 
 abbrev Inv-loop : tie.InvT-loop
@@ -21,14 +22,8 @@ Inv-loop image g column map₀ met₀ from bits at₀ s₀ map met at s = Seeing
 abbrev μ-loop : tie.MeasureT-loop
 μ-loop image g column map₀ met₀ from bits at₀ s₀ map met at s = 256 - s
 
-add-at : tie.Need-add-at Inv-loop μ-loop
-add-at c = search needs
-
-add-at-2 : tie.Need-add-at-2 Inv-loop μ-loop
-add-at-2 c = search needs
-
-mul-at : tie.Need-mul-at Inv-loop μ-loop
-mul-at c = search needs
+entry-at-requires : tie.Need-entry-at-requires Inv-loop μ-loop
+entry-at-requires c κs = search needs
 
 loop-holds : tie.Need-loop-holds Inv-loop μ-loop
 loop-holds c = (seeing-start _ _ _ _ (column-are (omega arith)), omega arith, omega arith)
@@ -47,8 +42,8 @@ returns c =
     let c₅ = c₄ .before in let l = c₅ .loop in
     seeing-stop _ _ (l .s ∷ []) _ (seeing-as _ _ (l .inv .0) (column-more (loop-test .taken))) (c .before .slot-holds .ensures) (not-true _ (c .if1 .taken))
 
-add-at-3 : tie.Need-add-at-3 Inv-loop μ-loop
-add-at-3 c = omega arith
+add-at : tie.Need-add-at Inv-loop μ-loop
+add-at c = omega arith
 
 add-s : tie.Need-add-s Inv-loop μ-loop
 add-s c = omega arith
@@ -61,8 +56,8 @@ loop-again c = (
   seeing-step _ _ (c .before .before .before .before .before .loop .s ∷ []) _
       (seeing-as _ _ (c .before .before .before .before .before .loop .inv .0) (column-more (c .before .before .before .before .loop-test .taken)))
       (c .before .slot-holds .ensures) (not-false _ (c .if1 .left)),
-  omega arith,
-  omega arith,
+  next-row _ _ (c .before .before .before .before .before .loop .inv .1),
+  same-column _ (c .before .before .before .before .before .loop .inv .2),
 )
 
 returns-2 : tie.Need-returns-2 Inv-loop μ-loop
@@ -74,13 +69,11 @@ sector-holds-spec =
     (tie.spec
     Inv-loop
     μ-loop
-    add-at
-    add-at-2
-    mul-at
+    entry-at-requires
     loop-holds
     slot-holds-requires
     returns
-    add-at-3
+    add-at
     add-s
     loop-less
     loop-again
