@@ -212,7 +212,7 @@ pub record HostPromise (g : Geometry) (d : List ℕ) (c : HostCall) (l : LeftToH
   pub is : l ≡ leftBy g d c
   pub promised : HostPromised g d c l
   -- with a fault's number goes its slot (02 §2)
-  pub fault : tooShort c ≡ false → In (l .number) faultNumbers → FaultIs g d (placed (l .number) (getD (l .told) 0 0))
+  pub fault : In (l .number) faultNumbers → FaultIs g d (placed (l .number) (getD (l .told) 0 0))
 
 abbrev pub EveryHostCall : Type 0
 EveryHostCall = (g : Geometry) (d : List ℕ) (c : HostCall) → HostPromise g d c (leftBy g d c)

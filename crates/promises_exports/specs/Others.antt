@@ -76,11 +76,15 @@ abbrev pub NameChecked : List ℕ → List ℕ → ℕ × ℕ × List ℕ → Ty
 NameChecked n b x = ExportFixed x (exportedName n b) (x .0) (rowsOf (nameTable n b)) (x .2 ∷ []) (b ∷ []) (NameTold n b x)
 
 module _ (g : Geometry) (d : List ℕ) where
+  -- with a fault's number goes its slot (02 §2)
+  abbrev pub WithFault : ℕ → ℕ → Type 0
+  WithFault number slot = In number faultNumbers → FaultIs g d (placed number slot)
+
   abbrev pub BroughtBackBy : ℕ → ℕ × ℕ × ℕ × ℕ × List ℕ → Type 0
   BroughtBackBy s x =
       ExportFixed x (exportedBringBack g d s) (x .0) (rowsOf (backTable g d s)) (x .4 ∷ []) (d ∷ [])
       (BackPromised g d s (record { refusal = placed (x .0) (x .1); slots = x .2; granules = x .3 }) (x .4)
-      × (In (x .0) faultNumbers → FaultIs g d (placed (x .0) (x .1))))
+      × WithFault (x .0) (x .1))
 
   -- play back (promises_session: PlayPromise), the trace of bytes
   pub record PlaysBack (t rs : List ℕ) (x : ℕ × ℕ × ℕ × ℕ × ℕ × List ℕ × List ℕ) : Type 0 where
@@ -89,6 +93,7 @@ module _ (g : Geometry) (d : List ℕ) where
     pub serves : x .0 ≡ 0 → (r : Trace) × TraceReads t r × (x .2 ≡ length (r .steps)) × (x .6 ≡ played g (r .names) (r .steps) d .1)
         × (x .5 ≡ played g (r .names) (r .steps) d .0 ++ drop (length (r .steps)) rs)
     pub place : x .0 ≡ 14 → FirstFault (bits t) (8 * x .3 + x .4)
+    pub fault : WithFault (x .0) (x .1)
 
   -- the trace is t, the buffer of results rs
   abbrev pub PlayedBack : List ℕ → List ℕ → ℕ × ℕ × ℕ × ℕ × ℕ × List ℕ × List ℕ → Type 0
@@ -102,6 +107,7 @@ module _ (g : Geometry) (d : List ℕ) where
         → (take rowBytes (drop (rowBytes * i) (x .3)) ≡ rowOf (getD (listed g d) (k + i) 0) (list g d (k + i))) × (list g d (k + i) .more ≡ true)
     pub all′ : x .0 ≡ 0 → rowBytes * x .2 + rowBytes ≤ length t → list g d (k + x .2) .more ≡ false
     pub rest : x .0 ≡ 0 → drop (rowBytes * x .2) (x .3) ≡ drop (rowBytes * x .2) t
+    pub fault : WithFault (x .0) (x .1)
 
   abbrev pub ListedFrom : ℕ → List ℕ → ℕ × ℕ × ℕ × List ℕ → Type 0
   ListedFrom k t x = ExportFixed x (exportedListFrom g d k t) (x .0) (rowsOf (rowsCases g d (length t))) (x .3 ∷ []) (t ∷ []) (RowsTold k t x)
@@ -120,7 +126,7 @@ module _ (g : Geometry) (d : List ℕ) where
   abbrev pub RecordLoaded : List ℕ → List ℕ → ℕ × ℕ × ℕ × ℕ × ℕ × ℕ × List ℕ × List ℕ → Type 0
   RecordLoaded b buffer x =
       ExportFixed x (exportedLoadRecord g d b buffer) (x .0) (rowsOf (loadCases g d (handleOf b) (length buffer))) (x .6 ∷ x .7 ∷ []) (b ∷ buffer ∷ [])
-      (handleBytes ≤ length b → Exactly (x .0) (loadCases g d (handleOf b) (length buffer)))
+      ((handleBytes ≤ length b → Exactly (x .0) (loadCases g d (handleOf b) (length buffer))) × WithFault (x .0) (x .1))
 
   -- load record asked n times at the most, with the bytes that the last call left, until no data record is told
   unfoldable pub loadedFrom : ℕ → List ℕ → List ℕ → Pieces

@@ -20,12 +20,12 @@ use Rattle.differences.specs.Compare.{compare}
 use Rattle.load.specs.Load.{loadRecord, loadRefusals}
 use Rattle.play_trace.specs.Reading.{readTrace, tell}
 use Rattle.play_session.specs.Playing.{play, playRefusals}
-use Rattle.list_rows.specs.Rows.{listFrom}
+use Rattle.list_rows.specs.Rows.{listFrom, rowsRefusals}
 use Rattle.lists.specs.First.{first-in}
 use Rattle.lists.specs.Members.{In, in-append-l, in-append-r, no-false, false-no}
 use Rattle.promises_words.specs.Given.{AreBytes}
 use Rattle.promises.specs.Promises.{Exactly, diskCases, BadAt}
-use Rattle.promises.specs.Refusing.{exactly}
+use Rattle.promises.specs.Refusing.{exactly, ownRows}
 use Rattle.promises.specs.Kept.{every-name}
 use Rattle.promises_back.specs.Statement.{backTable}
 use Rattle.promises_back.specs.Kept.{every-back}
@@ -42,7 +42,7 @@ use Rattle.genie.specs.Compared.{exportedCompare, tellsDifference}
 use Rattle.genie.specs.Program.{exportedLoadRecord, tellsRecord}
 use Rattle.promises_numbers.specs.Statement.{rowsOf}
 use Rattle.promises_fault.specs.Kept.{every-fault}
-use Rattle.promises_exports.specs.Proved.{numbered-by, numbered, fault-placed}
+use Rattle.promises_exports.specs.Proved.{numbered-by, numbered, fault-placed, with-own}
 use Rattle.promises_exports.specs.Others.{ExportFixed, nameTable, NameTold, NameChecked, BroughtBackBy, PlaysBack, PlayedBack, ListedFrom, ComparedWith}
 use Rattle.promises_exports.specs.Others.{RecordLoaded}
 
@@ -115,6 +115,7 @@ module _ (g : Geometry) (d : List ℕ) where
       }
 
   plays-back : (t rs : List ℕ) → AreBytes t → PlaysBack g d t rs (exportedPlay g d t rs)
+  unfolding play
   plays-back t rs a =
       let p = every-play g d t rs a in
       record {
@@ -122,6 +123,7 @@ module _ (g : Geometry) (d : List ℕ) where
         stays = p .stays;
         serves = λ z. let w = p .serves z in (w .reading, w .reads′, w .calls, w .image, w .results);
         place = p .placed .place;
+        fault = with-own g d (ownRows (playRefusals g d (tell (readTrace t)) (length rs))) tt;
       }
 
   pub played-back : (t rs : List ℕ) → PlayedBack g d t rs (exportedPlay g d t rs)
@@ -135,6 +137,7 @@ module _ (g : Geometry) (d : List ℕ) where
       }
 
   pub listed-from : (k : ℕ) (t : List ℕ) → ListedFrom g d k t (exportedListFrom g d k t)
+  unfolding listFrom
   listed-from k t =
       let n = rows-numbers g d k t in
       record {
@@ -146,6 +149,7 @@ module _ (g : Geometry) (d : List ℕ) where
           row = λ z i l. (row-is g d k t z i l, row-of-a-file g d k t z i l);
           all′ = λ z. none-left-out g d k t z;
           rest = λ z. rest-stands g d k t z;
+          fault = with-own g d (ownRows (rowsRefusals g d (length t))) tt;
         };
       }
 
@@ -155,7 +159,7 @@ module _ (g : Geometry) (d : List ℕ) where
   short-number = first-in (diskRefusals g d ((12, true) ∷ []))
 
   pub record-loaded : (b buffer : List ℕ) → RecordLoaded g d b buffer (exportedLoadRecord g d b buffer)
-  unfolding loadRecord tellsRecord
+  unfolding loadRecord tellsRecord tooShort
   record-loaded b buffer = by (ltb (length b) handleBytes) refl
     where
       by : (t : Bool) → ltb (length b) handleBytes ≡ t → RecordLoaded g d b buffer (exportedLoadRecord g d b buffer)
@@ -164,14 +168,17 @@ module _ (g : Geometry) (d : List ℕ) where
             is = refl;
             numbered = rw e (in-append-l (7 ∷ 6 ∷ 31 ∷ 32 ∷ 33 ∷ []) short-number);
             refuses = λ z. rw e refl;
-            does = λ l. absurd (let q : ⊥ = omega (arith, l, ltb→lt (length b) handleBytes (rw e tt)) in q);
+            does = (
+              λ l. absurd (let q : ⊥ = omega (arith, l, ltb→lt (length b) handleBytes (rw e tt)) in q),
+              rw e (with-own g d ((12, true) ∷ []) tt),
+            );
           }
       by false e =
           record {
             is = refl;
             numbered = rw e (first-in (loadRefusals g d (handleOf b) (length buffer)));
             refuses = λ z. rw e (rw (ne-eqb _ 0 (rw e at z)) refl);
-            does = λ l. rw e (load-numbers g d (handleOf b) buffer);
+            does = (λ l. rw e (load-numbers g d (handleOf b) buffer), rw e (with-own g d (ownRows (loadRefusals g d (handleOf b) (length buffer))) tt));
           }
 
   check-number : In (check g d .number) (0 ∷ rowsOf (diskCases g d ((12, Unit {0}) ∷ [])))

@@ -13,7 +13,8 @@ use lib.Seq.{sets}
 use borrow.Author.Tests.{eq-eqb, ne-eqb, ltb-false}
 use Rattle.meaning.specs.Amount.{oneRecord, wholeBuffer, howMany}
 use Rattle.meaning.specs.Refusal.{placed, slotTold}
-use Rattle.meaning.specs.Refusals.{first, diskRefusals, faultNumbers}
+use Rattle.meaning.specs.Lists.{every, has}
+use Rattle.meaning.specs.Refusals.{first, diskRefusals, faultNumbers, check, refusal}
 use Rattle.meaning.specs.Fault.{fault}
 use Rattle.meaning.specs.LookUp.{lookUp}
 use Rattle.meaning.specs.Open.{open′}
@@ -27,6 +28,7 @@ use Rattle.meaning.specs.declared.Geometry.{Geometry}
 use Rattle.meaning.specs.declared.Listed.{Listed}
 use Rattle.meaning.specs.declared.Refusal.{Refusal}
 use Rattle.lists.specs.Tests.{first-at}
+use Rattle.lists.specs.First.{numbersOf}
 use Rattle.lists.specs.Members.{In, in-cons, none-in, count-in}
 use Rattle.promises.specs.Said.{says}
 use Rattle.promises.specs.Promises.{Stays, Refuses, Table, Rows, Exactly, table, diskCases}
@@ -37,6 +39,8 @@ use Rattle.promises_numbers.specs.Statement.{rowsOf}
 use Rattle.promises_numbers.specs.Kept.{every-number}
 use Rattle.promises_fault.specs.Statement.{FaultIs, length′, slot, granule, sound}
 use Rattle.promises_fault.specs.Kept.{every-fault}
+use Rattle.promises_fault.specs.Handed.{hands-on}
+use Rattle.laws.specs.Carried.{carried-own}
 use Rattle.genie_codec.specs.Codec.{handleBytes, handleOf, stored, HandleFits}
 use Rattle.genie_codec.specs.Words.{modeOf, told}
 use Rattle.genie_codec.proofs.Fitting.{open-fits, create-fits, read-fits, write-fits}
@@ -371,6 +375,31 @@ module _ (g : Geometry) (d : List ℕ) where
   pub fault-placed : {r : Refusal} → r ≡ fault g d → FaultIs g d (placed (r .number) (r .at))
   fault-placed e = alone (subst (FaultIs g d) (sym e) (every-fault g d .told))
 
+  -- where the disk's refusals come first, and what the check found is handed on
+  pub with-own : (cs : List (ℕ × Bool)) → T (every (λ n. not (has faultNumbers n)) (numbersOf cs)) → let n = first (diskRefusals g d cs) in
+      In n faultNumbers → FaultIs g d (placed n (refusal g d n .at))
+  with-own cs o i =
+      fault-placed (hands-on g d cs o i (refusal g d (first (diskRefusals g d cs))) (λ e. carried-own (check g d) e))
+
+  -- of a slice that is too short
+  short-told : (c : HostCall) → tooShort c ≡ true → getD (leftBy g d c .told) 0 0 ≡ refusal g d (turned g d) .at
+  unfolding exports.tooShort
+  short-told checks e = absurd (no-truth e)
+  short-told (looksUp n) e = absurd (no-truth e)
+  short-told counts e = absurd (no-truth e)
+  short-told measures e = absurd (no-truth e)
+  short-told (opens n len checking code b) e = rw e refl
+  short-told (creates n f checking b) e = rw e refl
+  short-told (reads oneRecord b x) e = rw e refl
+  short-told (reads wholeBuffer b x) e = rw e refl
+  short-told (readsSector b k) e = rw e refl
+  short-told (writes oneRecord m b x) e = rw e refl
+  short-told (writes wholeBuffer m b x) e = rw e refl
+  short-told (allots b k) e = rw e refl
+  short-told (trims b) e = rw e refl
+  short-told (kills b) e = rw e refl
+  short-told (lists i b) e = rw e refl
+
   at-least : (n : ℕ) → In n faultNumbers → 21 ≤ n
   at-least n i = count-in n 21 10 i .0
 
@@ -411,11 +440,18 @@ module _ (g : Geometry) (d : List ℕ) where
   fault-out counts i = fault-placed (every-fault g d .handed Call.counts i)
   fault-out measures i = absurd (none-of i)
 
-  with-fault : (c : HostCall) → tooShort c ≡ false → In (leftBy g d c .number) faultNumbers
-      → FaultIs g d (placed (leftBy g d c .number) (getD (leftBy g d c .told) 0 0))
-  with-fault c e i =
-      subst (λ (l : LeftToHost). FaultIs g d (placed (l .number) (getD (l .told) 0 0))) (sym (out-is g d c e))
-      (fault-out c (subst (λ (n : ℕ). In n faultNumbers) (number-is g d c e) i))
+  with-fault : (c : HostCall) → In (leftBy g d c .number) faultNumbers → FaultIs g d (placed (leftBy g d c .number) (getD (leftBy g d c .told) 0 0))
+  with-fault c i = by (tooShort c) refl
+    where
+      by : (t : Bool) → tooShort c ≡ t → FaultIs g d (placed (leftBy g d c .number) (getD (leftBy g d c .told) 0 0))
+      by false e =
+          subst (λ (l : LeftToHost). FaultIs g d (placed (l .number) (getD (l .told) 0 0))) (sym (out-is g d c e))
+          (fault-out c (subst (λ (n : ℕ). In n faultNumbers) (number-is g d c e) i))
+      by true e =
+          let n = turned-number g d c e in
+          let w = with-own ((12, true) ∷ []) tt (subst (λ (n : ℕ). In n faultNumbers) n i) in
+          subst (λ (s : ℕ). FaultIs g d (placed (leftBy g d c .number) s)) (sym (short-told c e))
+          (subst (λ (k : ℕ). FaultIs g d (placed k (refusal g d (turned g d) .at))) (sym n) w)
 
 -- demands 1 and 2, of every call that a host makes
 pub every-host-call : EveryHostCall

@@ -73,9 +73,9 @@ module _ (g : Geometry) (d : List ℕ) where
           let z : check g d .number ≡ 1 = rw (Passed.check-one g d f) refl in absurd (omega (arith, z, low (check g d .number) i))
 
   -- a call whose refusals begin with the disk's, and that hands on what goes with its number
-  on : (cs : List (ℕ × Bool)) → T (every (λ n. not (has faultNumbers n)) (numbersOf cs)) → In (first (diskRefusals g d cs)) faultNumbers
+  pub hands-on : (cs : List (ℕ × Bool)) → T (every (λ n. not (has faultNumbers n)) (numbersOf cs)) → In (first (diskRefusals g d cs)) faultNumbers
       → (r : Refusal) → (first (diskRefusals g d cs) ≡ check g d .number → r ≡ check g d) → r ≡ fault g d
-  on cs o i r f = let e = disk-first cs o i in f (sym e) ∙ check-is (subst (λ (m : ℕ). In m faultNumbers) (sym e) i)
+  hands-on cs o i r f = let e = disk-first cs o i in f (sym e) ∙ check-is (subst (λ (m : ℕ). In m faultNumbers) (sym e) i)
 
   by-list : (j : ℕ) → In (check g d .number) faultNumbers → Listing.list g d j .refusal ≡ fault g d
   unfolding Listing.list
@@ -106,22 +106,22 @@ module _ (g : Geometry) (d : List ℕ) where
   pub handed : (c : Call) → In (number g d c) faultNumbers → refusalIn c (says g d c .answer) ≡ fault g d
   unfolding number lookUp open′ create readOf readSector writeOf allot trim kill Listing.counts freeSpace
   handed Call.checks i = check-is i
-  handed (Call.looksUp n) i = on (ownRows (lookUpRefusals g d n)) tt i _ (λ e. carried-first (check g d) (badAt n) e)
+  handed (Call.looksUp n) i = hands-on (ownRows (lookUpRefusals g d n)) tt i _ (λ e. carried-first (check g d) (badAt n) e)
   handed (Call.opens n len checking code) i =
-      on (ownRows (openRefusals g d n len checking code)) tt i _ (λ e. carried-first (check g d) (badAt n) e)
-  handed (Call.creates n f checking) i = on (ownRows (createRefusals g d n f checking)) tt i _ (λ e. carried-first (check g d) (badAt n) e)
+      hands-on (ownRows (openRefusals g d n len checking code)) tt i _ (λ e. carried-first (check g d) (badAt n) e)
+  handed (Call.creates n f checking) i = hands-on (ownRows (createRefusals g d n f checking)) tt i _ (λ e. carried-first (check g d) (badAt n) e)
   handed (Call.reads a h b) i =
-      on (ownRows (readRefusals g d h (howMany a (h .len) b) (length b))) tt i _ (λ e. carried-own (check g d) e)
-  handed (Call.readsSector h k) i = on (ownRows (sectorRefusals g d h k)) tt i _ (λ e. carried-own (check g d) e)
+      hands-on (ownRows (readRefusals g d h (howMany a (h .len) b) (length b))) tt i _ (λ e. carried-own (check g d) e)
+  handed (Call.readsSector h k) i = hands-on (ownRows (sectorRefusals g d h k)) tt i _ (λ e. carried-own (check g d) e)
   handed (Call.writes a m h b) i =
-      on (ownRows (writeRefusals g d m h (howMany a (h .len) b) (length b))) tt i _ (λ e. carried-own (check g d) e)
-  handed (Call.allots h k) i = on (ownRows (allotRefusals g d h k)) tt i _ (λ e. carried-own (check g d) e)
-  handed (Call.trims h) i = on (ownRows (trimRefusals g d h)) tt i _ (λ e. carried-own (check g d) e)
-  handed (Call.kills h) i = on (ownRows (killRefusals g d h)) tt i _ (λ e. carried-own (check g d) e)
+      hands-on (ownRows (writeRefusals g d m h (howMany a (h .len) b) (length b))) tt i _ (λ e. carried-own (check g d) e)
+  handed (Call.allots h k) i = hands-on (ownRows (allotRefusals g d h k)) tt i _ (λ e. carried-own (check g d) e)
+  handed (Call.trims h) i = hands-on (ownRows (trimRefusals g d h)) tt i _ (λ e. carried-own (check g d) e)
+  handed (Call.kills h) i = hands-on (ownRows (killRefusals g d h)) tt i _ (λ e. carried-own (check g d) e)
   handed (Call.lists j) i = by-list j (subst (λ (m : ℕ). In m faultNumbers) (list-number g d j) i)
   handed Call.counts i = check-is i
   handed Call.measures i = absurd (by-space i)
 
   pub back : (s : ℕ) → In (bringBack g d s .0 .refusal .number) faultNumbers → bringBack g d s .0 .refusal ≡ fault g d
   unfolding bringBack
-  back s i = on (ownRows (bringBackRefusals g d s)) tt i _ (λ e. carried-own (check g d) e)
+  back s i = hands-on (ownRows (bringBackRefusals g d s)) tt i _ (λ e. carried-own (check g d) e)
