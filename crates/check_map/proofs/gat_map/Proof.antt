@@ -54,7 +54,8 @@ loop-again c = turning-step (c .before .before .loop .inv) (c .before .loop-test
 
 -- src/lib.rt:16:1
 returns : tie.Need-returns Inv-loop μ-loop
-returns c = turning-end _ _ _ (c .before .before .before .before .pre .0) _ (rw (c .before .before .gat-at .ensures ∙ add-zero _) at (c .before .loop .inv)) (c .loop-test .left)
+returns c = turning-end _ _ _ (c .before .before .before .before .pre .0) _
+    (rw (c .before .before .gat-at .ensures ∙ add-zero _) at (c .before .loop .inv)) (c .loop-test .left)
 
 pub gat-map-spec : {M : Type 1} → statement M
 gat-map-spec =

@@ -62,7 +62,8 @@ returns c = let a = c .before .before .before .before .before .before .before .b
     (compared (a .g) (a .image .now) (a .s) (c .before .before .before .before .before .loop .x - 1) (a .at + 5 + 11 - (a .at + 5)) (a .at)
     (c .before .before .before .before .before .before .before .before .pre .0)
     (c .before .before .before .before .before .before .before .before .pre .1) (w .slot) (omega arith)
-    (c .before .before .before .before .before .before .before .before .pre .2) (rw (c .before .before .before .name-at .ensures) at (c .before .same-name .ensures)) ∙ ap not (c .if1 .taken))
+    (c .before .before .before .before .before .before .before .before .pre .2)
+    (rw (c .before .before .before .name-at .ensures) at (c .before .same-name .ensures)) ∙ ap not (c .if1 .taken))
 
 mul-x : tie.Need-mul-x Inv-loop μ-loop
 mul-x c = let a = c .before .before .before .before .before .before .before .before .args in
@@ -104,7 +105,8 @@ loop-again c = let a = c .before .before .before .before .before .before .before
     (compared (a .g) (a .image .now) (a .s) (c .before .before .before .before .before .before .loop .x - 1) (a .at + 5 + 11 - (a .at + 5)) (a .at)
     (c .before .before .before .before .before .before .before .before .before .pre .0)
     (c .before .before .before .before .before .before .before .before .before .pre .1) (w .slot) (omega arith)
-    (c .before .before .before .before .before .before .before .before .before .pre .2) (rw (c .before .before .before .before .name-at .ensures) at (c .before .before .same-name .ensures)) ∙ ap not
+    (c .before .before .before .before .before .before .before .before .before .pre .2)
+    (rw (c .before .before .before .before .name-at .ensures) at (c .before .before .same-name .ensures)) ∙ ap not
     (c .before .if1 .left))
 
 returns-2 : tie.Need-returns-2 Inv-loop μ-loop

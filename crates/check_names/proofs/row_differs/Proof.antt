@@ -36,7 +36,8 @@ entry-at-requires : tie.Need-entry-at-requires Inv-loop μ-loop
 entry-at-requires c κs = search needs
 
 loop-holds : tie.Need-loop-holds Inv-loop μ-loop
-loop-holds c = let e = c .before .directory-sectors .ensures in let r = c .entry-at .ensures in let t = c .before .before .before .before .before .pre .0 .thirty in
+loop-holds c = let e = c .before .directory-sectors .ensures in let r = c .entry-at .ensures in
+    let t = c .before .before .before .before .before .pre .0 .thirty in
     (c .before .before .before .before .before .pre .2, omega arith, omega arith, omega arith, omega arith)
 
 visit-requires : tie.Need-visit-requires Inv-loop μ-loop

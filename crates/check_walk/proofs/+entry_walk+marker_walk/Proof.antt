@@ -123,7 +123,8 @@ entry-walk-returns-3 : (t : ℕ) → entry-walk-lts.Need-returns-3 (
   marker-walk-below t,
   marker-walk.Post,
 ) (entry-walk-at t) entry-walk.Post
-entry-walk-returns-3 t c = walked-entry-no _ _ _ _ (c .before .before .before .before .before .if1 .left) (c .before .take-pairs .ensures) (ap (λ (b : Bool). not (not b)) (eq-eqb _ _ (c .if3 .taken)))
+entry-walk-returns-3 t c = walked-entry-no _ _ _ _ (c .before .before .before .before .before .if1 .left) (c .before .take-pairs .ensures)
+    (ap (λ (b : Bool). not (not b)) (eq-eqb _ _ (c .if3 .taken)))
 
 -- src/lib.rt:295:8
 entry-walk-field-at-requires : (t : ℕ) → entry-walk-lts.Need-field-at-requires (
@@ -162,7 +163,13 @@ entry-walk-add-result : (t : ℕ) → entry-walk-lts.Need-add-result (
   marker-walk-below t,
   marker-walk.Post,
 ) (entry-walk-at t) entry-walk.Post
-entry-walk-add-result t c = omega (arith, c .before .before .before .before .before .take-pairs .ensures .few, c .before .before .before .before .before .before .before .before .before .before .pre .1 .2, c .before .before .before .before .before .before .before .before .before .if1 .left)
+entry-walk-add-result t c = omega (
+  arith,
+  c .before .before .before .before .before .take-pairs .ensures .few,
+  c .before .before .before .before .before
+      .before .before .before .before .before .pre .1 .2,
+  c .before .before .before .before .before .before .before .before .before .if1 .left,
+)
 
 -- src/lib.rt:296:27
 entry-walk-mul-result : (t : ℕ) → entry-walk-lts.Need-mul-result (
@@ -175,7 +182,14 @@ entry-walk-mul-result : (t : ℕ) → entry-walk-lts.Need-mul-result (
   marker-walk-below t,
   marker-walk.Post,
 ) (entry-walk-at t) entry-walk.Post
-entry-walk-mul-result t c = let h : c .before .before .before .before .before .before .before .before .before .before .args .owned + c .before .before .before .before .before .take-pairs .result / 16 ≤ 65536 = omega (arith, c .before .before .before .before .before .take-pairs .ensures .few, c .before .before .before .before .before .before .before .before .before .before .pre .1 .2, c .before .before .before .before .before .before .before .before .before .if1 .left) in
+entry-walk-mul-result t c = let h : c .before .before .before .before .before .before .before .before .before .before .args .owned + c .before .before
+    .before .before .before .take-pairs .result / 16 ≤ 65536 = omega (
+      arith,
+      c .before .before .before .before .before .take-pairs .ensures .few,
+      c .before .before .before .before .before .before .before .before .before
+          .before .pre .1 .2,
+      c .before .before .before .before .before .before .before .before .before .if1 .left,
+    ) in
     omega (arith, mul-le-mul (c .granule-sectors .ensures .few) h)
 
 -- src/lib.rt:296:9
@@ -189,7 +203,9 @@ entry-walk-returns-4 : (t : ℕ) → entry-walk-lts.Need-returns-4 (
   marker-walk-below t,
   marker-walk.Post,
 ) (entry-walk-at t) entry-walk.Post
-entry-walk-returns-4 t c = walked-entry _ _ _ _ (c .before .before .before .before .before .before .before .before .before .if1 .left) (c .before .before .before .before .before .before .before .if2 .left) (c .before .before .before .before .before .take-pairs .ensures) (ap (λ (b : Bool). not (not b)) (ne-eqb _ _ (c .before .before .before .before .if3 .left)))
+entry-walk-returns-4 t c = walked-entry _ _ _ _ (c .before .before .before .before .before .before .before .before .before .if1 .left)
+    (c .before .before .before .before .before .before .before .if2 .left) (c .before .before .before .before .before .take-pairs .ensures)
+    (ap (λ (b : Bool). not (not b)) (ne-eqb _ _ (c .before .before .before .before .if3 .left)))
     (walked-end _ _ _ _ _ _ (c .granule-sectors .ensures .is) (c .before .before .field-at .ensures .is) (c .before .if4 .taken))
 
 -- src/lib.rt:309:9
@@ -216,7 +232,13 @@ entry-walk-add-marker-walk : (t : ℕ) → entry-walk-lts.Need-add-marker-walk (
   marker-walk-below t,
   marker-walk.Post,
 ) (entry-walk-at t) entry-walk.Post
-entry-walk-add-marker-walk t c = omega (arith, c .before .before .before .before .take-pairs .ensures .few, c .before .before .before .before .before .before .before .before .before .pre .1 .2, c .before .before .before .before .before .before .before .before .if1 .left)
+entry-walk-add-marker-walk t c = omega (
+  arith,
+  c .before .before .before .before .take-pairs .ensures .few,
+  c .before .before .before .before .before
+      .before .before .before .before .pre .1 .2,
+  c .before .before .before .before .before .before .before .before .if1 .left,
+)
 
 -- src/lib.rt:298:5
 entry-walk-marker-walk-requires : (t : ℕ) → entry-walk-lts.Need-marker-walk-requires (
@@ -234,8 +256,15 @@ entry-walk-marker-walk-requires t c κs = (
   (
     c .before .before .before .before .before .before .before .before .before .before .before .pre .1 .0,
     c .before .before .before .before .before .before .before .before .before .before .before .pre .1 .1,
-    c .before .before .before .before .before .before .take-pairs .ensures .runs-is (ap not (ne-eqb _ _ (c .before .before .before .before .before .if3 .left))),
-    omega (arith, c .before .before .before .before .before .before .take-pairs .ensures .few, c .before .before .before .before .before .before .before .before .before .before .before .pre .1 .2, c .before .before .before .before .before .before .before .before .before .before .if1 .left),
+    c .before .before .before .before .before .before .take-pairs .ensures .runs-is
+        (ap not (ne-eqb _ _ (c .before .before .before .before .before .if3 .left))),
+    omega (
+      arith,
+      c .before .before .before .before .before .before .take-pairs .ensures .few,
+      c .before .before .before .before .before .before .before
+          .before .before .before .before .pre .1 .2,
+      c .before .before .before .before .before .before .before .before .before .before .if1 .left,
+    ),
     λ z. c .before .before .if4 .left (c .before .before .before .field-at .ensures .is ∙ z),
   ),
 )
@@ -251,7 +280,10 @@ entry-walk-returns-5 : (t : ℕ) → entry-walk-lts.Need-returns-5 (
   marker-walk-below t,
   marker-walk.Post,
 ) (entry-walk-at t) entry-walk.Post
-entry-walk-returns-5 t c = walked-entry _ _ _ _ (c .before .before .before .before .before .before .before .before .before .before .before .if1 .left) (c .before .before .before .before .before .before .before .before .before .if2 .left) (c .before .before .before .before .before .before .before .take-pairs .ensures) (ap (λ (b : Bool). not (not b)) (ne-eqb _ _ (c .before .before .before .before .before .before .if3 .left)))
+entry-walk-returns-5 t c = walked-entry _ _ _ _ (c .before .before .before .before .before .before .before .before .before .before .before .if1 .left)
+    (c .before .before .before .before .before .before .before .before .before .if2 .left)
+    (c .before .before .before .before .before .before .before .take-pairs .ensures)
+    (ap (λ (b : Bool). not (not b)) (ne-eqb _ _ (c .before .before .before .before .before .before .if3 .left)))
     (c .marker-walk .ensures)
 
 -- src/lib.rt:359:9
@@ -304,7 +336,9 @@ marker-walk-entry-at-requires : (t : ℕ) → marker-walk-lts.Need-entry-at-requ
   entry-walk-below t,
   entry-walk.Post,
 ) (marker-walk-at t) marker-walk.Post
-marker-walk-entry-at-requires t c κs = slot-in _ _ (c .before .before .before .before .before .before .pre .1 .0) ((goes-place _ _ _ _ (is-yes (c .before .before .before .before .goes-on .ensures) (c .before .before .before .if1 .left)) (c .before .field-at .ensures .is) refl) .slot)
+marker-walk-entry-at-requires t c κs = slot-in _ _ (c .before .before .before .before .before .before .pre .1 .0)
+    ((goes-place _ _ _ _ (is-yes (c .before .before .before .before .goes-on .ensures) (c .before .before .before .if1 .left))
+    (c .before .field-at .ensures .is) refl) .slot)
 
 -- src/lib.rt:364:5
 marker-walk-entry-walk-requires : (t : ℕ) → marker-walk-lts.Need-entry-walk-requires (
@@ -321,7 +355,9 @@ marker-walk-entry-walk-requires t c κs = (
   omega arith,
   (
     c .before .before .before .before .before .before .before .before .before .pre .1 .0,
-    goes-place _ _ _ _ (is-yes (c .before .before .before .before .before .before .before .goes-on .ensures) (c .before .before .before .before .before .before .if1 .left)) (c .before .before .before .before .field-at .ensures .is) (c .before .before .entry-at .ensures),
+    goes-place _ _ _ _ (is-yes (c .before .before .before .before .before .before .before .goes-on .ensures)
+        (c .before .before .before .before .before .before .if1 .left)) (c .before .before .before .before .field-at .ensures .is)
+        (c .before .before .entry-at .ensures),
     omega arith,
   ),
 )
@@ -337,7 +373,10 @@ marker-walk-returns-2 : (t : ℕ) → marker-walk-lts.Need-returns-2 (
   entry-walk-below t,
   entry-walk.Post,
 ) (marker-walk-at t) marker-walk.Post
-marker-walk-returns-2 t c = walked-on _ _ _ _ _ refl (c .before .before .before .before .before .before .before .before .before .before .pre .1 .4) (is-yes (c .before .before .before .before .before .before .before .before .goes-on .ensures) (c .before .before .before .before .before .before .before .if1 .left)) (c .before .before .before .before .before .field-at .ensures .is) (c .entry-walk .ensures)
+marker-walk-returns-2 t c = walked-on _ _ _ _ _ refl (c .before .before .before .before .before .before .before .before .before .before .pre .1 .4)
+    (is-yes (c .before .before .before .before .before .before .before .before .goes-on .ensures)
+    (c .before .before .before .before .before .before .before .if1 .left)) (c .before .before .before .before .before .field-at .ensures .is)
+    (c .entry-walk .ensures)
 
 pub +entry-walk+marker-walk-spec : {M : Type 1} → statement M
 +entry-walk+marker-walk-spec = close μ-entry-walk μ-marker-walk (λ t. entry-walk-lts.spec (

@@ -47,10 +47,19 @@ returns-3 c =
     ∙ all-yes (on (field-at .ensures .is) (if1 .left)) _ ∙ all-yes (on (p .2) (if2 .left)) _ ∙ all-no (is-no (c .before .is-slot .ensures) (c .if3 .taken)) _)
 
 entry-at-requires : tie.Need-entry-at-requires
-entry-at-requires c κs = slot-in _ _ (c .before .before .before .before .before .before .before .pre .0) (slot-of _ _ _ (is-yes (c .before .is-slot .ensures) (c .if3 .left)))
+entry-at-requires c κs = slot-in _ _ (c .before .before .before .before .before .before .before .pre .0)
+    (slot-of _ _ _ (is-yes (c .before .is-slot .ensures) (c .if3 .left)))
 
 field-at-requires-3 : tie.Need-field-at-requires-3
-field-at-requires-3 c κs = (c .before .before .before .before .before .before .before .before .pre .0, record { slot = slot-of _ _ _ (is-yes (c .before .before .is-slot .ensures) (c .before .if3 .left)); is = c .entry-at .ensures }, omega arith)
+field-at-requires-3 c κs = (
+  c .before .before .before .before .before .before .before .before .pre .0,
+  record {
+    slot = slot-of _ _ _
+        (is-yes (c .before .before .is-slot .ensures) (c .before .if3 .left));
+    is = c .entry-at .ensures;
+  },
+  omega arith,
+)
 
 returns-4 : tie.Need-returns-4
 returns-4 c =
@@ -66,7 +75,16 @@ returns-4 c =
     ∙ all-no (off (c .before .field-at3 .ensures .is) (c .if4 .taken)) _)
 
 field-at-requires-4 : tie.Need-field-at-requires-4
-field-at-requires-4 c κs = (c .before .before .before .before .before .before .before .before .before .before .pre .0, record { slot = slot-of _ _ _ (is-yes (c .before .before .before .before .is-slot .ensures) (c .before .before .before .if3 .left)); is = c .before .before .entry-at .ensures }, omega arith)
+field-at-requires-4 c κs = (
+  c .before .before .before .before .before .before .before .before .before .before .pre .0,
+  record {
+    slot = slot-of _ _ _
+        (is-yes (c .before .before .before .before .is-slot .ensures)
+        (c .before .before .before .if3 .left));
+    is = c .before .before .entry-at .ensures;
+  },
+  omega arith,
+)
 
 returns-5 : tie.Need-returns-5
 returns-5 c =
@@ -83,7 +101,16 @@ returns-5 c =
     ∙ all-yes (on (field-at3 .ensures .is) (c .before .before .if4 .left)) _ ∙ all-no (off (c .before .field-at4 .ensures .is) (c .if5 .taken)) _)
 
 field-at-requires-5 : tie.Need-field-at-requires-5
-field-at-requires-5 c κs = (c .before .before .before .before .before .before .before .before .before .before .before .before .pre .0, record { slot = slot-of _ _ _ (is-yes (c .before .before .before .before .before .before .is-slot .ensures) (c .before .before .before .before .before .if3 .left)); is = c .before .before .before .before .entry-at .ensures }, omega arith)
+field-at-requires-5 c κs = (
+  c .before .before .before .before .before .before .before .before .before .before .before .before .pre .0,
+  record {
+    slot =
+        slot-of _ _ _ (is-yes (c .before .before .before .before .before .before .is-slot .ensures)
+        (c .before .before .before .before .before .if3 .left));
+    is = c .before .before .before .before .entry-at .ensures;
+  },
+  omega arith,
+)
 
 returns-6 : tie.Need-returns-6
 returns-6 c =

@@ -15,7 +15,9 @@ use Rattle.check_walk.proofs.no_runs.Reads as no-runs-reads
 use Rattle.check_walk.proofs.take_run.Reads as take-run-reads
 
 abbrev Inv-loop : tie.InvT-loop
-Inv-loop image blocks units start noPassword system granule s at map₀ g k₀ n₀ map k n = Entering (geometry blocks units start noPassword system granule) (image .now) s 1 (standing (geometry blocks units start noPassword system granule) (image .now) map₀) (standing (geometry blocks units start noPassword system granule) (image .now) map) k n
+Inv-loop image blocks units start noPassword system granule s at map₀ g k₀ n₀ map k n = Entering (geometry blocks units start noPassword system granule)
+    (image .now) s 1 (standing (geometry blocks units start noPassword system granule) (image .now) map₀)
+    (standing (geometry blocks units start noPassword system granule) (image .now) map) k n
 
 abbrev μ-loop : tie.MeasureT-loop
 μ-loop image blocks units start noPassword system granule s at map₀ g k₀ n₀ map k n = 4 - k
@@ -42,24 +44,44 @@ no-runs-requires c κs = search needs
 
 -- src/lib.rt:132:17
 returns : tie.Need-returns Inv-loop μ-loop
-returns c = not-so _ _ _ (entering-stop _ _ _ (c .before .before .before .before .before .before .before .loop .inv) (c .before .before .before .before .before .before .loop-test .taken) (c .before .before .before .before .field-at .ensures .is) (c .before .before .before .if1 .taken)
+returns c = not-so _ _ _ (entering-stop _ _ _ (c .before .before .before .before .before .before .before .loop .inv)
+    (c .before .before .before .before .before .before .loop-test .taken) (c .before .before .before .before .field-at .ensures .is)
+    (c .before .before .before .if1 .taken)
     (sym (is-no (c .before .no-runs .ensures) (c .if2 .taken)))) refl
 
 -- src/lib.rt:134:20
 mul-result : tie.Need-mul-result Inv-loop μ-loop
-mul-result c = omega (arith, c .before .before .before .before .before .before .before .loop .inv .few, c .before .before .before .before .before .before .before .loop .inv .four)
+mul-result c = omega (
+  arith,
+  c .before .before .before .before .before .before .before .loop .inv .few,
+  c .before .before .before .before .before .before
+      .before .loop .inv .four,
+)
 
 -- src/lib.rt:134:30
 add-result : tie.Need-add-result Inv-loop μ-loop
-add-result c = omega (arith, c .before .before .before .before .before .before .before .loop .inv .few, c .before .before .before .before .before .before .before .loop .inv .four)
+add-result c = omega (
+  arith,
+  c .before .before .before .before .before .before .before .loop .inv .few,
+  c .before .before .before .before .before .before
+      .before .loop .inv .four,
+)
 
 -- src/lib.rt:134:20
 add-result-2 : tie.Need-add-result-2 Inv-loop μ-loop
-add-result-2 c = omega (arith, c .before .before .before .before .before .before .before .loop .inv .few, c .before .before .before .before .before .before .before .loop .inv .four)
+add-result-2 c = omega (
+  arith,
+  c .before .before .before .before .before .before .before .loop .inv .few,
+  c .before .before .before .before .before .before
+      .before .loop .inv .four,
+)
 
 -- src/lib.rt:134:13
 returns-2 : tie.Need-returns-2 Inv-loop μ-loop
-returns-2 c = told _ _ _ (c .before .before .before .before .before .before .before .loop .inv .four) (entering-stop _ _ _ (c .before .before .before .before .before .before .before .loop .inv) (c .before .before .before .before .before .before .loop-test .taken) (c .before .before .before .before .field-at .ensures .is) (c .before .before .before .if1 .taken)
+returns-2 c = told _ _ _ (c .before .before .before .before .before .before .before .loop .inv .four)
+    (entering-stop _ _ _ (c .before .before .before .before .before .before .before .loop .inv)
+    (c .before .before .before .before .before .before .loop-test .taken) (c .before .before .before .before .field-at .ensures .is)
+    (c .before .before .before .if1 .taken)
     (sym (is-yes (c .before .no-runs .ensures) (c .if2 .left))))
 
 -- src/lib.rt:136:13
@@ -68,7 +90,9 @@ take-run-requires c κs = search needs
 
 -- src/lib.rt:138:13
 returns-3 : tie.Need-returns-3 Inv-loop μ-loop
-returns-3 c = entering-bad _ _ _ (c .before .before .before .before .before .before .before .before .loop .inv) (c .before .before .before .before .before .before .before .loop-test .taken) (c .before .before .before .before .before .field-at .ensures .is) (c .before .before .before .before .if1 .left) (rw (c .if3 .taken) at (c .before .take-run .ensures))
+returns-3 c = entering-bad _ _ _ (c .before .before .before .before .before .before .before .before .loop .inv)
+    (c .before .before .before .before .before .before .before .loop-test .taken) (c .before .before .before .before .before .field-at .ensures .is)
+    (c .before .before .before .before .if1 .left) (rw (c .if3 .taken) at (c .before .take-run .ensures))
 
 -- src/lib.rt:140:9
 add-n : tie.Need-add-n Inv-loop μ-loop
@@ -84,7 +108,9 @@ loop-less c = omega arith
 
 -- src/lib.rt:129:5
 loop-again : tie.Need-loop-again Inv-loop μ-loop
-loop-again c = entering-step _ _ _ (c .before .before .before .before .before .before .before .before .loop .inv) (c .before .before .before .before .before .before .before .loop-test .taken) (c .before .before .before .before .before .field-at .ensures .is) (c .before .before .before .before .if1 .left) (c .before .take-run .ensures) (c .if3 .left)
+loop-again c = entering-step _ _ _ (c .before .before .before .before .before .before .before .before .loop .inv)
+    (c .before .before .before .before .before .before .before .loop-test .taken) (c .before .before .before .before .before .field-at .ensures .is)
+    (c .before .before .before .before .if1 .left) (c .before .take-run .ensures) (c .if3 .left)
 
 -- src/lib.rt:143:5
 mul-result-2 : tie.Need-mul-result-2 Inv-loop μ-loop

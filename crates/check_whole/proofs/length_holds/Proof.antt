@@ -24,7 +24,8 @@ returns : tie.Need-returns
 returns c = length-far _ _ (rw (c .before .before .before .hit-at .ensures) at (c .before .wide .ensures .is)) (c .if1 .taken)
 
 returns-2 : tie.Need-returns-2
-returns-2 c = length-odd _ _ (rw (c .before .before .before .before .hit-at .ensures) at (c .before .before .wide .ensures .is)) (c .before .if1 .left) (c .if2 .taken)
+returns-2 c = length-odd _ _ (rw (c .before .before .before .before .hit-at .ensures) at (c .before .before .wide .ensures .is)) (c .before .if1 .left)
+    (c .if2 .taken)
 
 add-result : tie.Need-add-result
 add-result c = search needs
@@ -46,7 +47,8 @@ returns-3 c =
     let c₃ = c .before .before .before in let if2 = c₃ .if2 in
     let c₄ = c₃ .before in let if1 = c₄ .if1 in
     let c₅ = c₄ .before in let wide = c₅ .wide in
-    length-rest _ _ (rw (c₅ .before .before .hit-at .ensures) at (wide .ensures .is)) (if1 .left) (if2 .left) (c .before .granules .ensures .0) (c .granule-sectors .ensures .is)
+    length-rest _ _ (rw (c₅ .before .before .hit-at .ensures) at (wide .ensures .is)) (if1 .left) (if2 .left) (c .before .granules .ensures .0)
+    (c .granule-sectors .ensures .is)
 
 pub length-holds-spec : {M : Type 1} → statement M
 length-holds-spec =
