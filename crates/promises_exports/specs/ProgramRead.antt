@@ -31,12 +31,12 @@ use Rattle.promises_exports.specs.Others.{loadedFrom, EveryHostProgram}
 
 module _ (g : Geometry) (d : List ℕ) where
   -- where a data record is told, the handle stands behind it, and its bytes are in the buffer
-  pub record Told (h : Handle) (x : List ℕ) : Type 0 where
+  pub record RecordTold (h : Handle) (x : List ℕ) : Type 0 where
     pub next : asked g d h .next ≤ length (bytesOf g d (h .slot))
     pub handle : loadRecord g d h x .0 .handle ≡ movedTo h (asked g d h .next)
     pub room : length x ≤ length (loadRecord g d h x .1)
 
-  told : (h : Handle) (x : List ℕ) → loadRecord g d h x .0 .kind ≡ dataCode → Told h x
+  told : (h : Handle) (x : List ℕ) → loadRecord g d h x .0 .kind ≡ dataCode → RecordTold h x
   unfolding loadRecord
   told h x e = by (eqb (first (loadRefusals g d h (length x))) 0) refl
     where
@@ -46,7 +46,7 @@ module _ (g : Geometry) (d : List ℕ) where
       bs : List ℕ
       bs = bytesOf g d (h .slot)
 
-      by : (t : Bool) → eqb (first (loadRefusals g d h (length x))) 0 ≡ t → Told h x
+      by : (t : Bool) → eqb (first (loadRefusals g d h (length x))) 0 ≡ t → RecordTold h x
       by true q =
           let k : r .kind ≡ dataCode = rw q at e in
           let n = next-is bs (h .at) in
