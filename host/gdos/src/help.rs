@@ -1,7 +1,7 @@
 //! The help texts.
 
 use crate::args::Spec;
-use crate::commands::{Command, COMMANDS};
+use crate::command::Command;
 use crate::shape;
 use genie_dos::Preset;
 
@@ -61,10 +61,10 @@ What no command does
   The new file has access level 0 and is not invisible, and F and E are not set, as of every new file.
 ";
 
-/// `gdos --help`.
-pub fn overview() -> String {
+/// `gdos --help`, of all commands.
+pub fn overview(commands: &[Command]) -> String {
     let mut text = format!("{ABOUT}\nCommands\n");
-    for command in COMMANDS {
+    for command in commands {
         text += &format!("  {:<12}{}\n", command.name, command.summary);
     }
     text + "\n" + NAMES + "\n" + GEOMETRY + "\n" + &presets() + "\n" + CHANGES + "\n" + STATUS
@@ -87,7 +87,7 @@ pub fn on(command: &Command) -> String {
     for example in command.examples {
         text += &format!("  {example}\n");
     }
-    text + &format!("\nExit status: {}. `gdos --help` tells more.\n", command.status())
+    text + &format!("\nExit status: {}. `gdos --help` tells more.\n", command.status)
 }
 
 /// Options under their title; behind those of the geometry the presets.

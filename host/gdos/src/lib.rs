@@ -5,6 +5,7 @@
 
 mod args;
 mod colour;
+mod command;
 mod commands;
 mod damage;
 mod date;

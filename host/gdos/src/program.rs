@@ -1,7 +1,8 @@
 //! One run of the program.
 
 use crate::args::{Args, Asked};
-use crate::commands::{self, Command, Output};
+use crate::command::{Command, Output};
+use crate::commands::{self, COMMANDS};
 use crate::failure::Failure;
 use crate::help;
 use std::ffi::{OsStr, OsString};
@@ -14,12 +15,12 @@ pub fn run(mut words: impl Iterator<Item = OsString>, out: &mut dyn Write, err: 
     let first = match words.next() {
         Some(first) => first,
         None => {
-            streams.complain(help::overview().trim_end());
+            streams.complain(help::overview(COMMANDS).trim_end());
             return 2;
         }
     };
     match first.to_str() {
-        Some("--help" | "-h") => return streams.print(help::overview().as_bytes()),
+        Some("--help" | "-h") => return streams.print(help::overview(COMMANDS).as_bytes()),
         Some("--version" | "-V") => return streams.print(help::version().as_bytes()),
         Some("help") => return streams.help_on(words.next()),
         _ => {}
@@ -55,7 +56,7 @@ impl Streams<'_> {
     /// `gdos help` and `gdos help COMMAND`.
     fn help_on(&mut self, word: Option<OsString>) -> u8 {
         match word.as_ref().map(|word| (word, commands::find(word))) {
-            None => self.print(help::overview().as_bytes()),
+            None => self.print(help::overview(COMMANDS).as_bytes()),
             Some((_, Some(command))) => self.print(help::on(command).as_bytes()),
             Some((word, None)) => self.no_command(word),
         }

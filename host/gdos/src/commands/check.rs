@@ -1,7 +1,7 @@
 //! `gdos check`.
 
 use super::opened::Opened;
-use super::{failures_json, Command, Output, JSON};
+use super::{failures_json, Command, Output, DONE, JSON};
 use crate::args::{Args, Spec};
 use crate::damage;
 use crate::failure::Failure;
@@ -36,6 +36,7 @@ that of the worst image.
         "gdos check --preset dd80ds week1.img week2.img",
         "gdos check --all --preset dd40 damaged.img",
     ],
+    status: DONE,
     run,
 };
 

@@ -1,6 +1,6 @@
 //! `gdos completion` and `gdos manual`.
 
-use super::{Command, Output};
+use super::{Command, Output, COMMANDS, DONE};
 use crate::args::Args;
 use crate::failure::Failure;
 use crate::manual;
@@ -20,6 +20,7 @@ an image, names of its files. `make install` puts all three where they are found
 ",
     groups: &[],
     examples: &["source <(gdos completion bash)", "gdos completion fish | source"],
+    status: DONE,
     run,
 };
 
@@ -33,9 +34,10 @@ finds it.
 ",
     groups: &[],
     examples: &["gdos manual | man -l -"],
+    status: DONE,
     run: |args| match args.words.first() {
         Some(surplus) => Err(Failure::Wrong(format!("what is {surplus:?} for? This command takes no words"))),
-        None => Ok(Output { text: manual::page().into_bytes(), ..Output::default() }),
+        None => Ok(Output { text: manual::page(COMMANDS).into_bytes(), ..Output::default() }),
     },
 };
 
@@ -44,7 +46,7 @@ fn run(args: &Args) -> Result<Output, Failure> {
     match args.words.as_slice() {
         [] => Err(Failure::Wrong(format!("which shell? There are {}", names()))),
         [word] => match SHELLS.iter().find(|shell| word == shell.name) {
-            Some(shell) => Ok(Output { text: (shell.script)().into_bytes(), ..Output::default() }),
+            Some(shell) => Ok(Output { text: (shell.script)(COMMANDS).into_bytes(), ..Output::default() }),
             None => Err(Failure::Wrong(format!("there is no completion for {word:?}; there are {}", names()))),
         },
         [_, surplus, ..] => Err(Failure::Wrong(format!("what is {surplus:?} for? This command takes one shell"))),

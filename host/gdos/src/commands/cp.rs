@@ -4,7 +4,7 @@ use super::choose::{chosen, open, password};
 use super::ls::attributes;
 use super::opened::Opened;
 use super::put::{put_one, Source};
-use super::{Command, Output, ALL, CODE, FORCE, JSON, UNLOCK};
+use super::{Command, Output, ALL, CODE, DONE, FORCE, JSON, UNLOCK};
 use crate::args::{Args, Spec};
 use crate::failure::Failure;
 use crate::json::Json;
@@ -49,6 +49,7 @@ ends in 2 says otherwise of the second.
         "gdos cp bench1.img:'PULS*/DAT' archive.img:",
         "gdos cp bench1.img:EICH01/DAT bench1.img:EICH01/OLD",
     ],
+    status: DONE,
     run,
 };
 

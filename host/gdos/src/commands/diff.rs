@@ -34,6 +34,7 @@ of the second.
         "gdos diff --json week1.img week2.img",
         "gdos diff --preset sd40 --preset2 dd80ds old.img new.img",
     ],
+    status: STATUS,
     run,
 };
 

@@ -2,7 +2,7 @@
 
 use super::choose::only_image;
 use super::seeing::Shown;
-use super::{Command, Output, JSON};
+use super::{Command, Output, DONE, JSON};
 use crate::args::{Args, Spec};
 use crate::damage;
 use crate::dump::{self, Section, Seen};
@@ -45,6 +45,7 @@ sectors that its entries name, and where they name none, that is told.
         "gdos dump disk.img --gat",
         "gdos dump --preset dd40 damaged.img --file PULS01/DAT | less",
     ],
+    status: DONE,
     run,
 };
 

@@ -2,7 +2,7 @@
 
 use super::choose::refused;
 use super::opened::Opened;
-use super::{Command, Output, JSON};
+use super::{Command, Output, DONE, JSON};
 use crate::args::Args;
 use crate::failure::Failure;
 use crate::json::Json;
@@ -25,6 +25,7 @@ where one that ends in 2 says otherwise of the second.
 ",
     groups: &[("Options", &[JSON]), (shape::TITLE, shape::OPTIONS_OF_TWO)],
     examples: &["gdos find PULS01/DAT drive0.img drive1.img", "gdos find --json EICH01/DAT bench.img"],
+    status: DONE,
     run,
 };
 

@@ -3,7 +3,7 @@
 use super::choose::only_image;
 use super::opened::Opened;
 use super::room::More;
-use super::{Command, Output, JSON};
+use super::{Command, Output, DONE, JSON};
 use crate::args::Args;
 use crate::failure::Failure;
 use crate::fault;
@@ -26,6 +26,7 @@ stated: what is marked free is counted, and a note says what is wrong with the d
 ",
     groups: &[("Options", &[JSON]), (shape::TITLE, shape::OPTIONS)],
     examples: &["gdos free disk.img", "gdos free damaged.img --preset dd80ds"],
+    status: DONE,
     run,
 };
 

@@ -2,7 +2,7 @@
 
 use super::choose::only_image;
 use super::opened::{shown, Opened};
-use super::{Command, Output, JSON};
+use super::{Command, Output, DONE, JSON};
 use crate::args::{Args, Spec};
 use crate::failure::Failure;
 use crate::fault;
@@ -34,6 +34,7 @@ GDOS_GEOMETRY is written likewise: `dd40`, or `blocks=48 units=3 start=360`.
 ",
     groups: &[("Options", &[SET, SEARCH, JSON]), (shape::TITLE, shape::OPTIONS)],
     examples: &["gdos geometry disk.img", "gdos geometry disk.img --set --preset dd40"],
+    status: DONE,
     run,
 };
 

@@ -2,7 +2,7 @@
 
 use super::choose::{chosen, image_and_files, open, password};
 use super::opened::Opened;
-use super::{failures_json, Command, Output, ALL, CODE, FORCE, JSON, UNLOCK};
+use super::{failures_json, Command, Output, ALL, CODE, DONE, FORCE, JSON, UNLOCK};
 use crate::args::{Args, Spec};
 use crate::date;
 use crate::failure::Failure;
@@ -41,6 +41,7 @@ becomes its time of last change, noon in UTC; where the disk states none, that i
         "gdos get disk.img '*/DAT' -o series",
         "gdos get disk.img PULS01/DAT -o -",
     ],
+    status: DONE,
     run,
 };
 
@@ -54,6 +55,7 @@ and told on standard error.
 ",
     groups: &[("Options", &[ALL, CODE, UNLOCK]), (shape::TITLE, shape::OPTIONS)],
     examples: &["gdos cat disk.img PULS01/DAT | xxd | less"],
+    status: DONE,
     run: |args| {
         let (image, words) = image_and_files(args)?;
         to_standard_output(args, image, words)

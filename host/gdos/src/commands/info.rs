@@ -4,7 +4,7 @@ use super::choose::{chosen, image_and_rest, refused};
 use super::ls::{attributes, file_json};
 use super::opened::Opened;
 use super::room::More;
-use super::{failures_json, Command, Output, ALL, JSON};
+use super::{failures_json, Command, Output, ALL, DONE, JSON};
 use crate::args::Args;
 use crate::failure::Failure;
 use crate::json::Json;
@@ -22,6 +22,7 @@ belong to no file. With names or patterns: each file's entry and the granules an
 ",
     groups: &[("Options", &[ALL, JSON]), (shape::TITLE, shape::OPTIONS)],
     examples: &["gdos info disk.img", "gdos info disk.img PULS01/DAT"],
+    status: DONE,
     run,
 };
 

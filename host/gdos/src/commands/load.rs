@@ -2,7 +2,7 @@
 
 use super::choose::{image_and_rest, open, password};
 use super::opened::Opened;
-use super::{failures_json, Command, Output, CODE, FORCE, JSON, UNLOCK};
+use super::{failures_json, Command, Output, CODE, DONE, FORCE, JSON, UNLOCK};
 use crate::args::{Args, Spec};
 use crate::failure::Failure;
 use crate::host;
@@ -38,6 +38,7 @@ the file is whole. In Intel HEX the start address stands in the last record.
         (shape::TITLE, shape::OPTIONS),
     ],
     examples: &["gdos load disk.img PULS/CMD", "gdos load disk.img PULS/CMD --hex puls.hex"],
+    status: DONE,
     run,
 };
 

@@ -2,7 +2,7 @@
 
 use super::choose::{chosen, image_and_rest, refused};
 use super::opened::Opened;
-use super::{failures_json, Command, Output, JSON};
+use super::{failures_json, Command, Output, DONE, JSON};
 use crate::args::{Args, Spec};
 use crate::failure::Failure;
 use crate::json::Json;
@@ -41,6 +41,7 @@ The attributes are letters, or a dash where one does not apply, then the level o
         "gdos ls --listing disk.img",
         "gdos ls --json disk.img",
     ],
+    status: DONE,
     run,
 };
 

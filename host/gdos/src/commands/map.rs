@@ -2,7 +2,7 @@
 
 use super::choose::only_image;
 use super::seeing::Shown;
-use super::{Command, Output, FORCE, JSON};
+use super::{Command, Output, DONE, FORCE, JSON};
 use crate::args::{Args, Spec};
 use crate::colour::{self, painted, Look};
 use crate::damage;
@@ -43,6 +43,7 @@ A disk that is not consistent is shown too, if its geometry is stated. Other fil
         "gdos map disk.img --file PULS01/DAT",
         "gdos map --preset dd40 damaged.img --svg damaged.svg",
     ],
+    status: DONE,
     run,
 };
 

@@ -3,7 +3,7 @@
 use super::choose::only_image;
 use super::new::place;
 use super::opened::{shown, Opened};
-use super::{Command, Output, FORCE, JSON};
+use super::{Command, Output, DONE, FORCE, JSON};
 use crate::args::{Args, Spec};
 use crate::damage;
 use crate::failure::Failure;
@@ -39,6 +39,7 @@ never written. State its geometry: a damaged disk is seldom found by search.
         (shape::TITLE, shape::OPTIONS),
     ],
     examples: &["gdos mend --preset dd40 -n disk.img", "gdos mend --preset dd40 disk.img -o mended.img"],
+    status: DONE,
     run,
 };
 

@@ -38,45 +38,11 @@ pub use opened::Opened;
 #[cfg(unix)]
 pub use put::{date, DATE};
 
-use crate::args::{Args, Spec};
+use crate::args::Spec;
+use crate::command::{Command, Output, DONE};
 use crate::failure::Failure;
 use crate::json::Json;
 use std::ffi::OsStr;
-
-/// A command of the program.
-pub struct Command {
-    pub name: &'static str,
-    pub summary: &'static str,
-    /// What stands behind the name on the command line.
-    pub usage: &'static str,
-    /// What it does, for its help.
-    pub about: &'static str,
-    /// Its options, under their titles.
-    pub groups: &'static [(&'static str, &'static [Spec])],
-    pub examples: &'static [&'static str],
-    pub run: fn(&Args) -> Result<Output, Failure>,
-}
-
-impl Command {
-    /// All its options.
-    pub fn options(&self) -> Vec<Spec> {
-        self.groups.iter().flat_map(|(_, specs)| *specs).copied().collect()
-    }
-
-    /// Whether it has an option of this name.
-    pub fn knows(&self, long: &str) -> bool {
-        self.options().iter().any(|spec| spec.long == long)
-    }
-
-    /// What its exit status tells, for its help.
-    pub fn status(&self) -> &'static str {
-        match self.name {
-            diff::NAME => diff::STATUS,
-            name if name == rescue::COMMAND.name => rescue::STATUS,
-            _ => "0 done, 1 refused, 2 wrong usage or I/O",
-        }
-    }
-}
 
 /// All commands, in the order of the help.
 pub const COMMANDS: &[Command] = &[
@@ -112,23 +78,6 @@ pub const COMMANDS: &[Command] = &[
 /// The command of a name.
 pub fn find(name: &OsStr) -> Option<&'static Command> {
     COMMANDS.iter().find(|command| name == command.name)
-}
-
-/// What a command leaves to be printed.
-#[derive(Debug, Default)]
-pub struct Output {
-    /// For people.
-    pub text: Vec<u8>,
-    /// For programs, with `--json`.
-    pub json: Json,
-    /// Remarks to standard error.
-    pub notes: Vec<String>,
-    /// What went wrong although the command went on.
-    pub failures: Vec<Failure>,
-    /// The exit status, if it is more than the failures make it.
-    pub status: u8,
-    /// The command did more than to print this: it changed an image or wrote files.
-    pub changed: bool,
 }
 
 const JSON: Spec = Spec { long: "json", short: None, value: None, help: "write one JSON value instead of text" };

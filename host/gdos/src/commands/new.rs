@@ -2,7 +2,7 @@
 
 use super::choose::only_image;
 use super::opened::shown;
-use super::{Command, Output, FORCE, JSON};
+use super::{Command, Output, DONE, FORCE, JSON};
 use crate::args::{number, Args, Spec};
 use crate::failure::Failure;
 use crate::host::Prepared;
@@ -48,6 +48,7 @@ neither a system nor a label on the disk.
         "gdos new --blocks 16 --units 2 --start 80 small.img",
         "gdos new --preset dd80ds --directory 30 --data-disk archive.img",
     ],
+    status: DONE,
     run,
 };
 

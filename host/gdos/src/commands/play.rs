@@ -3,7 +3,7 @@
 use super::choose::image_and_rest;
 use super::new::place;
 use super::opened::{shown, Opened};
-use super::{Command, Output, FORCE, JSON};
+use super::{Command, Output, DONE, FORCE, JSON};
 use crate::args::{Args, Spec};
 use crate::failure::Failure;
 use crate::host;
@@ -49,6 +49,7 @@ With --show TRACE the calls are written as a list, as gdos record takes it.
         "gdos play disk.img session.trace --to-image after.img",
         "gdos play --show session.trace",
     ],
+    status: DONE,
     run,
 };
 
@@ -72,6 +73,7 @@ A name that is not well formed is = and its eleven bytes in hexadecimal.
 ",
     groups: &[("Options", &[Spec { help: "replace a trace that is there", ..FORCE }, JSON])],
     examples: &["gdos record session.txt session.trace"],
+    status: DONE,
     run: record,
 };
 

@@ -2,7 +2,7 @@
 
 use super::choose::only_image;
 use super::opened::shown;
-use super::{Command, Output, JSON};
+use super::{Command, Output, DONE, JSON};
 use crate::args::Args;
 use crate::failure::Failure;
 use crate::host;
@@ -29,6 +29,7 @@ Refused with 1 if no geometry has this length, and if the disk is consistent und
 ",
     groups: &[("Options", &[JSON]), (shape::TITLE, shape::OPTIONS)],
     examples: &["gdos probe disk.img", "gdos probe --units 6 disk.img"],
+    status: DONE,
     run,
 };
 

@@ -3,7 +3,7 @@
 use super::choose::{image_and_rest, password, refused};
 use super::opened::Opened;
 use super::room::{slots_left, Runs};
-use super::{failures_json, Command, Output, CODE, FORCE, JSON, UNLOCK};
+use super::{failures_json, Command, Output, CODE, DONE, FORCE, JSON, UNLOCK};
 use crate::args::{Args, Spec};
 use crate::date;
 use crate::failure::Failure;
@@ -78,6 +78,7 @@ says so. With --date none the directory states no day. Both codes are the open c
         "gdos put disk.img puls01.dat --date 1983-10-09 --record-length 128",
         "gdos put disk.img leer.dat --date none",
     ],
+    status: DONE,
     run,
 };
 

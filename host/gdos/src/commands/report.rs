@@ -7,7 +7,7 @@ use super::opened::shown as shown_path;
 use super::rescue::{had_and_missing, Had};
 use super::seeing::{presumed_length, Shown};
 use super::undelete::removed_files;
-use super::{Command, Output, FORCE, JSON};
+use super::{Command, Output, DONE, FORCE, JSON};
 use crate::args::{Args, Spec};
 use crate::damage;
 use crate::failure::Failure;
@@ -37,6 +37,7 @@ A disk that is not consistent is reported too, if its geometry is stated.
         (shape::TITLE, shape::OPTIONS),
     ],
     examples: &["gdos report disk.img -o disk.html", "gdos report --preset dd40 damaged.img -o damaged.html"],
+    status: DONE,
     run,
 };
 

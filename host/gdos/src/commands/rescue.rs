@@ -48,6 +48,7 @@ The image is never written. State its geometry: a damaged disk is seldom found b
         "gdos rescue --preset dd40 disk.img -o series",
         "gdos rescue --preset dd40 disk.img -o series --doubtful",
     ],
+    status: STATUS,
     run,
 };
 

@@ -1,7 +1,7 @@
 //! `gdos rm`.
 
 use super::change::change_each;
-use super::{Command, CODE, JSON, UNLOCK};
+use super::{Command, CODE, DONE, JSON, UNLOCK};
 use crate::shape;
 use genie_dos::Disk;
 
@@ -15,5 +15,6 @@ removed or none: if one is refused (not there, wrong password, a system file), t
 ",
     groups: &[("Options", &[CODE, UNLOCK, shape::SEARCH, JSON]), (shape::TITLE, shape::OPTIONS)],
     examples: &["gdos rm disk.img PULS01/DAT", "gdos rm disk.img 'PULS*/DAT' LEER"],
+    status: DONE,
     run: |args| change_each(args, "removed", Disk::kill),
 };

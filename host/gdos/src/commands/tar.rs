@@ -4,7 +4,7 @@ use super::choose::{chosen, image_and_rest, password};
 use super::get::{contents, time_of, times};
 use super::opened::Opened;
 use super::put::{no_twins, put_all, stated_date, Source, DATE};
-use super::{failures_json, Command, Output, ALL, CODE, FORCE, JSON, UNLOCK};
+use super::{failures_json, Command, Output, ALL, CODE, DONE, FORCE, JSON, UNLOCK};
 use crate::args::{Args, Spec};
 use crate::date;
 use crate::failure::Failure;
@@ -73,6 +73,7 @@ goes out as 1970, and a time before 1970-01-02 comes in as no date.
         "gdos tar new.img --in disk.tar",
         "tar -c puls01.dat puls02.dat | gdos tar disk.img --in - --date 1983-10-09",
     ],
+    status: DONE,
     run,
 };
 

@@ -1,7 +1,7 @@
 //! `gdos trim`.
 
 use super::change::change_each;
-use super::{Command, CODE, JSON, UNLOCK};
+use super::{Command, CODE, DONE, JSON, UNLOCK};
 use crate::shape;
 use genie_dos::Disk;
 
@@ -16,5 +16,6 @@ nothing to give back the image is not written at all.
 ",
     groups: &[("Options", &[CODE, UNLOCK, shape::SEARCH, JSON]), (shape::TITLE, shape::OPTIONS)],
     examples: &["gdos trim disk.img PULS01/DAT", "gdos trim disk.img '*'"],
+    status: DONE,
     run: |args| change_each(args, "trimmed", Disk::trim),
 };

@@ -3,7 +3,7 @@
 use super::choose::{image_and_rest, no_name};
 use super::leftovers::{self, also_in, Also};
 use super::opened::Opened;
-use super::{Command, Output, JSON};
+use super::{Command, Output, DONE, JSON};
 use crate::args::{Args, Spec};
 use crate::failure::Failure;
 use crate::json::Json;
@@ -37,6 +37,7 @@ have a name, the slot is to say which one is meant.
         "gdos undelete disk.img PULS01/DAT PULS02/DAT",
         "gdos undelete disk.img --slot 82H",
     ],
+    status: DONE,
     run,
 };
 

@@ -1,7 +1,7 @@
 //! For bash.
 
-use super::{commands, options, typed, value, words, Place};
-use crate::commands::COMMANDS;
+use super::{names, options, typed, value, words, Place};
+use crate::command::Command;
 
 /// What stands before what is made of the commands: it offers what `place` says.
 const HEAD: &str = r#"# bash completion for gdos; `gdos completion bash` wrote it.
@@ -65,13 +65,13 @@ fn place(place: &Place) -> String {
     }
 }
 
-pub fn script() -> String {
+pub fn script(commands: &[Command]) -> String {
     let mut text = HEAD.to_string();
-    let names = commands().join(" ");
+    let names = names(commands).join(" ");
     text += "    case $COMP_CWORD:$command:$prev in\n";
     text += &format!("        1:*) place='help {names} --help --version' ;;\n");
     text += &format!("        *:help:*) place='{names}' ;;\n");
-    for command in COMMANDS {
+    for command in commands {
         for spec in command.options() {
             if let Some(kind) = value(&spec) {
                 let typed: Vec<_> = typed(&spec).iter().map(|word| format!("*:{}:{word}", command.name)).collect();
@@ -80,7 +80,7 @@ pub fn script() -> String {
         }
     }
     text += "    esac\n    case $command in\n";
-    for command in COMMANDS {
+    for command in commands {
         let all: Vec<_> = options(command).iter().flat_map(typed).collect();
         let (first, later) = words(command);
         text += &format!(

@@ -1,7 +1,7 @@
 //! For fish.
 
-use super::{commands, options, value, words, Place};
-use crate::commands::COMMANDS;
+use super::{names, options, value, words, Place};
+use crate::command::Command;
 
 const HEAD: &str = r#"# fish completion for gdos; `gdos completion fish` wrote it.
 
@@ -41,10 +41,10 @@ fn place(place: &Place) -> Option<String> {
     }
 }
 
-pub fn script() -> String {
+pub fn script(commands: &[Command]) -> String {
     let mut text = HEAD.to_string();
-    text += &format!("complete -c gdos -n '__fish_seen_subcommand_from help' -a '{}'\n", commands().join(" "));
-    for command in COMMANDS {
+    text += &format!("complete -c gdos -n '__fish_seen_subcommand_from help' -a '{}'\n", names(commands).join(" "));
+    for command in commands {
         let (name, summary) = (command.name, quoted(command.summary));
         text += &format!("\ncomplete -c gdos -n __fish_use_subcommand -a {name} -d {summary}\n");
         let seen = format!("__fish_seen_subcommand_from {name}");

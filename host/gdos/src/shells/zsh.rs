@@ -2,7 +2,7 @@
 
 use super::{options, value, words, Place};
 use crate::args::Spec;
-use crate::commands::{Command, COMMANDS};
+use crate::command::Command;
 
 const HEAD: &str = r#"#compdef gdos
 # zsh completion for gdos; `gdos completion zsh` wrote it.
@@ -72,9 +72,9 @@ fn case(command: &Command) -> String {
     text + "                    ;;\n"
 }
 
-pub fn script() -> String {
+pub fn script(commands: &[Command]) -> String {
     let mut text = HEAD.to_string();
-    for command in COMMANDS {
+    for command in commands {
         text += &format!("        '{}:{}'\n", command.name, escaped(command.summary));
     }
     text += "    )\n    _arguments -C '1:command:->command' '*::argument:->argument'\n    case $state in\n";
@@ -82,7 +82,7 @@ pub fn script() -> String {
     text += "                '(help:\"tell of a command\" --help --version)'\n            ;;\n";
     text += "        argument)\n            case ${words[1]} in\n";
     text += "                help) _describe command commands ;;\n";
-    for command in COMMANDS {
+    for command in commands {
         text += &case(command);
     }
     text + "            esac\n            ;;\n    esac\n}\n\n_gdos \"$@\"\n"
