@@ -1,4 +1,5 @@
 // A killed file, as far as it still stands: its chain is followed and its entries written down, and name and size are tested.
+#![tactic(auto)]
 ghost use Rattle.std.specs.Prelude.{◌≡◌, false, ◌<◌, ◌≤◌, length};
 ghost use Rattle.meaning.specs.Layout.{granules};
 ghost use Rattle.meaning.specs.Consistent.{link_holds_by};
@@ -28,7 +29,7 @@ fn link_holds(image: &[u8], g: Geometry, s: usize, runs: usize) -> bool
 }
 
 // What a killed entry by itself gave: whether it holds, and how many granules it has.
-#[derive(Drop)]
+#[derive(Clone, Copy)]
 pub struct Visited {
     pub ok: bool,
     pub granules: usize,
@@ -62,7 +63,7 @@ fn visit(image: &[u8], g: Geometry, s: usize, map: &mut [u8; 192], met: &mut [u8
 }
 
 // What the chain of a killed file gave: whether every entry of it holds, none and no granule twice; and how many there are.
-#[derive(Drop)]
+#[derive(Clone, Copy)]
 pub struct Walked {
     pub ok: bool,
     pub slots: usize,

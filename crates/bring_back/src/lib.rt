@@ -1,5 +1,6 @@
 // Bring back a killed series (request 02, §11). The entries of the killed file are found and written down first; whatever can refuse the
 // call is tested before anything is written.
+#![tactic(auto)]
 ghost use Rattle.std.specs.Prelude.{◌≡◌, length};
 ghost use Rattle.meaning.specs.Layout.{granules};
 ghost use Rattle.meaning.specs.Refusals.{check};
@@ -9,7 +10,7 @@ ghost use Rattle.bring_back.specs.Plan.{Plans};
 use meaning::{BroughtBack, Geometry, Refusal};
 
 // The number of the call, and where it is 0 what is to be written: how many slots and granules, and the HIT byte.
-#[derive(Drop)]
+#[derive(Clone, Copy)]
 pub struct Planned {
     pub number: u8,
     pub slots: usize,

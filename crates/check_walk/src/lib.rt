@@ -1,4 +1,5 @@
 // The walk along a file's chain: it tests every entry that it meets, and takes the entry's granules off the owner map.
+#![tactic(auto)]
 ghost use Rattle.std.specs.Prelude.{◌≡◌, ◌+◌, ◌-◌, ◌*◌, ◌<◌, ◌≤◌, true, ◌||◌, ltb};
 ghost use Rattle.meaning.specs.Lists.{count, every};
 ghost use Rattle.meaning.specs.Layout.{field};
@@ -87,7 +88,7 @@ fn no_runs(image: &[u8], g: Geometry, s: usize, at: usize, k: usize) -> bool
 }
 
 // What an entry's pairs gave: how many runs, and how many granules; or that they are not as they must be.
-#[derive(Drop)]
+#[derive(Clone, Copy)]
 pub struct Pairs {
     pub ok: bool,
     pub runs: usize,

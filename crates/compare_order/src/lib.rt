@@ -1,5 +1,6 @@
 // The names of two disks, rising. The files of either disk are put into the order of their names once, as a table of slots; then the two
 // tables are gone along side by side.
+#![tactic(auto)]
 ghost use Rattle.std.specs.Prelude.{◌≡◌, ◌+◌, ◌<◌, ◌≤◌, length, get_or, take, drop};
 ghost use Rattle.meaning.specs.Entries.{name_of};
 ghost use Rattle.layout.specs.Room.{Room, Slot};
@@ -12,7 +13,7 @@ use meaning::Geometry;
 
 // The files of one name: kind 1 where only the first disk has one, 2 where only the second has, 3 where both have, at those slots; kind
 // 0 where there is no name.
-#[derive(Drop)]
+#[derive(Clone, Copy)]
 pub struct Pair {
     pub kind: u8,
     pub first: usize,

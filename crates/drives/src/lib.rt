@@ -1,9 +1,10 @@
 // What the calls on two drives are given and answer (02 §9). What they mean is in specs/.
+#![tactic(auto)]
 
 use meaning::{Handle, Refusal};
 
 // "Handles carry the drive number": a handle of one image, and the drive that holds it.
-#[derive(Drop)]
+#[derive(Clone, Copy)]
 pub struct DriveHandle {
     pub drive: usize,
     pub handle: Handle,
@@ -13,7 +14,7 @@ pub struct DriveHandle {
 
 // What look up answers: the drive that has the file, its slot there, and how many entries were compared on the drives searched. All are 0 under a
 // refusal but the count, which is told under 4.
-#[derive(Drop)]
+#[derive(Clone, Copy)]
 pub struct DriveLookedUp {
     pub refusal: Refusal,
     pub drive: usize,
@@ -22,14 +23,14 @@ pub struct DriveLookedUp {
 }
 
 // What open answers, and every call with a handle but read sector: the handle as the call leaves it.
-#[derive(Drop)]
+#[derive(Clone, Copy)]
 pub struct DriveAnswer {
     pub refusal: Refusal,
     pub handle: DriveHandle,
 }
 
 // What create answers. `old`: a file of that name was there.
-#[derive(Drop)]
+#[derive(Clone, Copy)]
 pub struct DriveCreated {
     pub refusal: Refusal,
     pub old: bool,
@@ -37,7 +38,7 @@ pub struct DriveCreated {
 }
 
 // What read sector answers: a part of the image of a drive, which it does not hold. Drive 0, and its empty part at place 0, under a refusal.
-#[derive(Drop)]
+#[derive(Clone, Copy)]
 pub struct DrivePart {
     pub refusal: Refusal,
     pub drive: usize,

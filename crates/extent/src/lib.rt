@@ -1,4 +1,5 @@
 // How far a file reaches, and how many granules a size needs.
+#![tactic(auto)]
 ghost use Rattle.std.specs.Prelude.{◌≡◌, ◌≤◌, length};
 ghost use Rattle.meaning.specs.Layout.{granules_for};
 ghost use Rattle.meaning.specs.Entries.{entry_granules};
@@ -9,7 +10,7 @@ ghost use Rattle.extent.specs.Reach.{Reaches};
 use meaning::Geometry;
 
 // The last entry of a file, and how many granules the file owns.
-#[derive(Drop)]
+#[derive(Clone, Copy)]
 pub struct Extent {
     pub last: usize,
     pub owned: usize,

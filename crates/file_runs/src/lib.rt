@@ -1,5 +1,6 @@
 // A file gone along from its first byte to its last, run by run. The granules of a run stand beside one another, and so do its bytes: whoever
 // goes through a whole file gets one part of the image for each run, and walks each entry once.
+#![tactic(auto)]
 ghost use Rattle.std.specs.Prelude.{◌≡◌, ◌*◌, ◌<◌, ◌≤◌, length};
 ghost use Rattle.meaning.specs.Layout.{granule_bytes};
 ghost use Rattle.meaning.specs.Chain.{owned};
@@ -10,7 +11,7 @@ use meaning::Geometry;
 
 // Bytes `from` to `to` of a file lie from `at` on in the image. What follows them begins with pair `pair` of the entry at `slot`; from there on
 // `left` entries are looked at, at the most.
-#[derive(Drop)]
+#[derive(Clone, Copy)]
 pub struct FileRun {
     pub slot: usize,
     pub pair: usize,

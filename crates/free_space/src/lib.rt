@@ -2,6 +2,7 @@
 // one step, and so are eight such blocks of eight granules; any other is met bit by bit. A stretch goes on from block to block, and no granule
 // number is worked out, so nothing is divided. space::free_count counts by whole bytes: it cannot serve here, for the longest stretch hangs on
 // which bits are clear and not on how many.
+#![tactic(auto)]
 ghost use Rattle.std.specs.Prelude.{◌≡◌, ◌≤◌};
 ghost use Rattle.meaning.specs.FreeSpace.{free_space};
 ghost use Rattle.free_space.specs.Pass.{Gat, EightBlocks, RoomLeft, BlockPassed, Tells, ended, longer, met};
@@ -10,7 +11,7 @@ use meaning::{Geometry, Space};
 
 // What the pass has seen so far: the free granules of the stretches that have ended, those of the stretch that has not, and how long the
 // longest of those that have ended is.
-#[derive(Drop)]
+#[derive(Clone, Copy)]
 pub struct Seen {
     pub free: usize,
     pub here: usize,

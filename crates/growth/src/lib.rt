@@ -1,4 +1,5 @@
 // A file grows: granules are taken run by run, first on paper, then on the disk.
+#![tactic(auto)]
 ghost use Rattle.std.specs.Prelude.{◌≡◌, true, false, cond, ◌+◌, ◌*◌, ◌/◌, ◌%◌, ◌<◌, ◌≤◌, length};
 ghost use Rattle.meaning.specs.Layout.{granules, field, set_field, take_granule, entry_at};
 ghost use Rattle.meaning.specs.Entries.{no_growth};
@@ -14,7 +15,7 @@ ghost use Rattle.growth.specs.Longer.{longer, Further};
 use meaning::Geometry;
 
 // Where a new run starts; by the second choice, how long the stretch there is.
-#[derive(Drop)]
+#[derive(Clone, Copy)]
 pub struct Chosen {
     pub at: usize,
     pub most: usize,

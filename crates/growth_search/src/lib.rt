@@ -1,4 +1,5 @@
 // What a growth looks for: the granule and the slot that come next, and whether there are enough of both. The disk stays as it is.
+#![tactic(auto)]
 ghost use Rattle.std.specs.Prelude.{◌≡◌, ◌+◌, ◌*◌, ◌≤◌, ◌<◌, length, ltb};
 ghost use Rattle.meaning.specs.Layout.{granules, most_units};
 ghost use Rattle.meaning.specs.Free.{free_granules};
@@ -8,7 +9,7 @@ ghost use Rattle.growth_search.specs.Search.{Ends, IsClear, ClearFrom, AllClear,
 use meaning::Geometry;
 
 // The runs of an entry; the granule after the last of them, and how long that one is. `long` is 32 where there is none.
-#[derive(Drop)]
+#[derive(Clone, Copy)]
 pub struct Ending {
     pub runs: usize,
     pub after: usize,
@@ -16,7 +17,7 @@ pub struct Ending {
 }
 
 // A free stretch: its lowest granule, and how many it has.
-#[derive(Drop)]
+#[derive(Clone, Copy)]
 pub struct Found {
     pub low: usize,
     pub long: usize,

@@ -256,9 +256,9 @@ module _ (g : Geometry) (d : List ℕ) (c : Faultless g d) where
   whole_is p f = Members.all-every (λ s. not (chain_fault g d s)) (walk g d p) (λ s i.
       not_T (chain_fault g d s) (c.clear s (Walk.walk-used g d p s f i).slot).chain')
 
-  size_holds : (p : ℕ) → IsFile g d p → T (size_holds g d p)
+  size-holds : (p : ℕ) → IsFile g d p → T (size_holds g d p)
   unfolding size_fault
-  size_holds p f = yes-T (size_holds g d p) (λ n. (c.clear p f.slot).size
+  size-holds p f = yes-T (size_holds g d p) (λ n. (c.clear p f.slot).size
       (Kinds.all_three (in_use_primary g d p) (chain_whole g d p) (not (size_holds g d p)) f.primary' (whole_is p f) n))
 
   off : (p n : ℕ) → IsFile g d p → T (not (system g d p)) → In n (owned g d p) → In n (directory_granules g d) → ⊥
@@ -286,7 +286,7 @@ module _ (g : Geometry) (d : List ℕ) (c : Faultless g d) where
   file-holds : (p : ℕ) → IsFile g d p → T (file_holds g d p)
   unfolding file_holds all
   file-holds p f =
-      let a = name-holds p f in let b = hash-holds p f in let e = size_holds p f in let h = off-holds p f in
+      let a = name-holds p f in let b = hash-holds p f in let e = size-holds p f in let h = off-holds p f in
       search Members.and_i depth 5
 
   not-duplicate : (p q : ℕ) → IsFile g d p → IsFile g d q → q < p → name_of g d q ≡ name_of g d p → ⊥

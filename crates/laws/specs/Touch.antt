@@ -99,7 +99,7 @@ module _ (g : Geometry) (xs ns d : List ℕ) where
   touch-part {e} x i (v ∷ vs) k h t =
       let q : entry_at g x + suc k ≡ suc (entry_at g x + k) = omega arith in
       subst (λ (j : ℕ). Touch g xs ns d (sets (set e (entry_at g x + k) v) j vs)) q
-      (touch-part x i vs (suc k) (omega arith) (Touch.entry x k v i (omega arith) t))
+      (touch-part {e = set e (entry_at g x + k) v} x i vs (suc k) (omega arith) (Touch.entry x k v i (omega arith) t))
 
   pub touch-whole : {e : List ℕ} (x : ℕ) (vs : List ℕ) → In x xs → length vs ≤ 32 → Touch g xs ns d e → Touch g xs ns d (sets e (entry_at g x) vs)
   touch-whole {e} x vs i h t = subst (λ (j : ℕ). Touch g xs ns d (sets e j vs)) (add-zero (entry_at g x)) (touch-part x i vs 0 (omega arith) t)

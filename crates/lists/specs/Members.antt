@@ -284,9 +284,15 @@ pub distinct-r : (xs ys : List ℕ) → Distinct (xs ++ ys) → Distinct ys
 distinct-r [] ys d = d
 distinct-r (x ∷ xs) ys (fresh f d) = distinct-r xs ys d
 
+first-apart : {x : ℕ} {xs : List ℕ} → Distinct (x ∷ xs) → In x xs → ⊥
+first-apart (fresh f d) = f
+
+rest-distinct : {x : ℕ} {xs : List ℕ} → Distinct (x ∷ xs) → Distinct xs
+rest-distinct (fresh f d) = d
+
 pub distinct_apart : {x : ℕ} {xs : List ℕ} (ys : List ℕ) → Distinct (xs ++ ys) → In x xs → In x ys → ⊥
-distinct_apart {xs = x ∷ xs} ys (fresh f d) here j = f (in-append-r xs j)
-distinct_apart {xs = y ∷ xs} ys (fresh f d) (there i) j = distinct_apart ys d i j
+distinct_apart ys d (here {xs = xs}) j = first-apart d (in-append-r xs j)
+distinct_apart ys d (there {xs = xs} i) j = distinct_apart {xs = xs} ys (rest-distinct d) i j
 
 pub each-distinct : (f : ℕ → List ℕ) {xs : List ℕ} → Distinct xs → ((x : ℕ) → In x xs → Distinct (f x))
     → ((x y n : ℕ) → In x xs → In y xs → In n (f x) → In n (f y) → x ≡ y) → Distinct (each f xs)

@@ -92,6 +92,13 @@ is-no {f} e t = sym e ∙ not-true f t
 pub is-yes : {f a : Bool} → f ≡ a → not f ≡ false → a ≡ true
 is-yes {f} e t = sym e ∙ not-false f t
 
+-- the same where the prover has taken the `!` off
+pub is-false : {f a : Bool} → f ≡ a → f ≡ false → a ≡ false
+is-false e t = sym e ∙ t
+
+pub is-true : {f a : Bool} → f ≡ a → f ≡ true → a ≡ true
+is-true e t = sym e ∙ t
+
 pub all_one : (b : Bool) → all (b ∷ []) ≡ b
 unfolding all
 all_one b = and-true b

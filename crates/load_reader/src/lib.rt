@@ -1,4 +1,5 @@
 // The reader of a program file (02 §12): "a reader that keeps hold of the lent image and its place in the file".
+#![tactic(auto)]
 ghost use Rattle.std.specs.Prelude.{◌≡◌};
 ghost use Rattle.load_reader.specs.Held.{held, asked, moved_by};
 
@@ -6,7 +7,7 @@ use load::Loaded;
 use meaning::{Geometry, Handle};
 
 // The image that is lent, and the handle, whose position is the place; the geometry beside them.
-#[derive(Drop)]
+#[derive(Clone, Copy)]
 pub struct Reader<'a> {
     pub image: &'a [u8],
     pub geometry: Geometry,

@@ -1,4 +1,5 @@
 // Calls by name that look: look up and open. `checked` is the answer of the check of the whole disk.
+#![tactic(auto)]
 ghost use Rattle.std.specs.Prelude.{◌≡◌, ◌+◌, ◌*◌, ◌<◌, ◌≤◌, length};
 ghost use Rattle.meaning.specs.Refusal.{carried};
 ghost use Rattle.meaning.specs.Refusals.{check};
@@ -10,7 +11,7 @@ ghost use Rattle.look_up.specs.Found.{Finds};
 
 use meaning::{Answer, Geometry, Handle, LookedUp, Refusal};
 
-#[derive(Drop)]
+#[derive(Clone, Copy)]
 pub struct Found {
     pub is: bool,
     pub slot: usize,

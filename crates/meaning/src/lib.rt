@@ -1,8 +1,9 @@
 // The shapes that document 01 speaks of. What they mean is in specs/.
+#![tactic(auto)]
 
 // What the caller states of a disk: blocks, units per block, the sector where the directory starts, the code that stands for "no
 // password", whether it is a system disk (02, §4) and how many sectors a granule has (02, §10): nothing on the disk says so.
-#[derive(Drop)]
+#[derive(Clone, Copy)]
 pub struct Geometry {
     pub blocks: usize,
     pub units: usize,
@@ -13,7 +14,7 @@ pub struct Geometry {
 }
 
 // What a caller holds of an open file: slot, name, position, record length and level.
-#[derive(Drop)]
+#[derive(Clone, Copy)]
 pub struct Handle {
     pub slot: usize,
     pub name: [u8; 11],
@@ -23,14 +24,14 @@ pub struct Handle {
 }
 
 // What a name that comes in is taken for: the name, its small letters as capital ones, or the place of its first bad byte; 11 where none is bad.
-#[derive(Drop)]
+#[derive(Clone, Copy)]
 pub struct Incoming {
     pub place: usize,
     pub name: [u8; 11],
 }
 
 // What a caller gives for a new file: the date (the year as its offset from 1980), the record length and the two codes.
-#[derive(Drop)]
+#[derive(Clone, Copy)]
 pub struct NewFile {
     pub day: usize,
     pub month: usize,
@@ -41,7 +42,7 @@ pub struct NewFile {
 }
 
 // The two kinds of write.
-#[derive(Drop)]
+#[derive(Clone, Copy)]
 pub enum Mode {
     Sequential,
     Random,
@@ -50,7 +51,7 @@ pub enum Mode {
 // What a call says of a refusal. `number` is that of 01's table and of 02, 0 where the call was accepted. `at` is what goes with it: under 21 to
 // 30 the slot of the fault, under 3 the place of the name's first bad byte, 0 to 10; 256 where there is nothing. `image` is the image that it
 // names, 1 or 2, where a call is given two; else 0.
-#[derive(Drop)]
+#[derive(Clone, Copy)]
 pub struct Refusal {
     pub number: u8,
     pub image: u8,
@@ -60,7 +61,7 @@ pub struct Refusal {
 // Every answer holds one.
 
 // What look up answers: the slot, and how many entries were compared.
-#[derive(Drop)]
+#[derive(Clone, Copy)]
 pub struct LookedUp {
     pub refusal: Refusal,
     pub slot: usize,
@@ -68,14 +69,14 @@ pub struct LookedUp {
 }
 
 // What open answers, and every call with a handle but read sector: the handle as the call leaves it.
-#[derive(Drop)]
+#[derive(Clone, Copy)]
 pub struct Answer {
     pub refusal: Refusal,
     pub handle: Handle,
 }
 
 // What create answers. `old`: a file of that name was there.
-#[derive(Drop)]
+#[derive(Clone, Copy)]
 pub struct Created {
     pub refusal: Refusal,
     pub old: bool,
@@ -83,7 +84,7 @@ pub struct Created {
 }
 
 // What read sector answers: a part of the image, from a place up to another, which it does not hold.
-#[derive(Drop)]
+#[derive(Clone, Copy)]
 pub struct Part {
     pub refusal: Refusal,
     pub from: usize,
@@ -91,7 +92,7 @@ pub struct Part {
 }
 
 // What the listing answers: one file, or, where `more` is false, "no more".
-#[derive(Drop)]
+#[derive(Clone, Copy)]
 pub struct Listed {
     pub refusal: Refusal,
     pub more: bool,
@@ -101,7 +102,7 @@ pub struct Listed {
 }
 
 // What the counts answer: FILES and FREE.
-#[derive(Drop)]
+#[derive(Clone, Copy)]
 pub struct Counts {
     pub refusal: Refusal,
     pub files: usize,
@@ -109,7 +110,7 @@ pub struct Counts {
 }
 
 // What free space answers: how many granules are free, and how long the longest free stretch is.
-#[derive(Drop)]
+#[derive(Clone, Copy)]
 pub struct Space {
     pub refusal: Refusal,
     pub free: usize,
@@ -117,7 +118,7 @@ pub struct Space {
 }
 
 // What bring back answers (02, §11): how many slots and granules the file has.
-#[derive(Drop)]
+#[derive(Clone, Copy)]
 pub struct BroughtBack {
     pub refusal: Refusal,
     pub slots: usize,

@@ -1,4 +1,5 @@
 // The hash of a name.
+#![tactic(auto)]
 ghost use Rattle.std.specs.Prelude.{◌≡◌, eqb, length};
 ghost use Rattle.meaning.specs.Lists.{through};
 ghost use Rattle.meaning.specs.Names.{rotate, mix, hash};

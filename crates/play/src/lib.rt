@@ -1,6 +1,7 @@
 // Playing back a recorded session (02 §6). The trace is read through before anything runs; then its calls are made one after the other. The disk is
 // checked once, before the first of them: a call leaves a consistent disk consistent (promises: EveryCall), so that what the check answered is what
 // it would answer before each call after it.
+#![tactic(auto)]
 ghost use Rattle.std.specs.Prelude.{◌≡◌, false, ◌≤◌, length, replicate};
 ghost use Rattle.meaning.specs.Refusals.{check};
 ghost use Rattle.meaning.specs.Handles.{moved_to};

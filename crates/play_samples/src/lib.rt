@@ -1,1 +1,2 @@
 // Traces and sessions on whole disks, computed (specs/).
+#![tactic(auto)]

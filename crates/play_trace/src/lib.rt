@@ -1,4 +1,5 @@
 // The trace of a recorded session (02 §6): its steps, whether it is well formed, and each step. What a trace means is in specs/Reading.antt.
+#![tactic(auto)]
 ghost use Rattle.std.specs.Prelude.{◌≡◌, true, cond, ◌+◌, ◌*◌, ◌≤◌, ◌<◌, eqb, ltb, length, get_or, []};
 ghost use Rattle.play_trace.specs.Bits.{bits};
 ghost use Rattle.play_trace.specs.Steps.{uses, fields, first_bad, step_of, no_step};
@@ -6,13 +7,13 @@ ghost use Rattle.play_trace.specs.Steps.Field.{the_file, the_position, the_lengt
 ghost use Rattle.play_trace.specs.Reading.{fields_from, numbers_at, read_trace, tell, calls_told, steps_of, names_of};
 
 // What create uses of a call: the record length.
-#[derive(Drop)]
+#[derive(Clone, Copy)]
 pub struct CreateWith {
     pub length: usize,
 }
 
 // What the writes use: the position, the record length and the byte that is written.
-#[derive(Drop)]
+#[derive(Clone, Copy)]
 pub struct WriteWith {
     pub position: usize,
     pub length: usize,
@@ -20,20 +21,20 @@ pub struct WriteWith {
 }
 
 // What allot uses: the sector, which stands where other calls have their position.
-#[derive(Drop)]
+#[derive(Clone, Copy)]
 pub struct AllotWith {
     pub sector: usize,
 }
 
 // What read uses: the position and the record length.
-#[derive(Drop)]
+#[derive(Clone, Copy)]
 pub struct ReadWith {
     pub position: usize,
     pub length: usize,
 }
 
 // One of seven calls, with its own numbers. Trim and kill have none.
-#[derive(Drop)]
+#[derive(Clone, Copy)]
 pub enum Call {
     Create(CreateWith),
     SequentialWrite(WriteWith),
@@ -45,14 +46,14 @@ pub enum Call {
 }
 
 // A step of the playback: a call on the file of that number.
-#[derive(Drop)]
+#[derive(Clone, Copy)]
 pub struct Step {
     pub file: usize,
     pub call: Call,
 }
 
 // The six numbers of a call as the trace has them.
-#[derive(Drop)]
+#[derive(Clone, Copy)]
 pub struct Numbers {
     pub operation: usize,
     pub file: usize,
@@ -64,7 +65,7 @@ pub struct Numbers {
 
 // What the check of a trace tells: of a well-formed one how many calls it has; of any other the place of its first fault, `byte` whole bytes and
 // `bit` bits behind its beginning. What has no value is 0.
-#[derive(Drop)]
+#[derive(Clone, Copy)]
 pub struct Checked {
     pub well: bool,
     pub calls: usize,

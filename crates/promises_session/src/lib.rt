@@ -1,1 +1,2 @@
 // What is promised of playing back a recorded session (specs/).
+#![tactic(auto)]

@@ -1,4 +1,5 @@
 // The granules of a file, found by walking its chain.
+#![tactic(auto)]
 ghost use Rattle.std.specs.Prelude.{◌≡◌, ◌+◌, ◌*◌, ◌<◌, ◌≤◌, get_or};
 ghost use Rattle.meaning.specs.Lists.{each};
 ghost use Rattle.meaning.specs.Entries.{entry_granules};
@@ -8,7 +9,7 @@ ghost use Rattle.seek.specs.Seek.{Walkable, Used, Sought};
 
 use meaning::Geometry;
 
-#[derive(Drop)]
+#[derive(Clone, Copy)]
 pub struct Seek {
     pub here: bool,
     pub at: usize,

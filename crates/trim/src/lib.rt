@@ -1,4 +1,5 @@
 // Trim: the granules that a file has no need of are dropped, the last ones first, run by run.
+#![tactic(auto)]
 ghost use Rattle.std.specs.Prelude.{◌≡◌, ◌+◌, ◌-◌, ◌*◌, ◌/◌, ◌<◌, ◌≤◌, length};
 ghost use Rattle.meaning.specs.Lists.{times};
 ghost use Rattle.meaning.specs.Layout.{field, set_field, entry_at};
@@ -40,7 +41,7 @@ fn unhook(image: &mut [u8], g: Geometry, p: usize, e: usize, before: usize)
 }
 
 // The last entry of a file that loses granules, and how many it has still to lose.
-#[derive(Drop)]
+#[derive(Clone, Copy)]
 pub struct Dropped {
     pub last: usize,
     pub left: usize,

@@ -1,6 +1,7 @@
 // A file driven through four runs, into a first and a second extension, by trim back to none, through the same again by a write, and
 // killed. What the directory should hold is written out beside each call, byte for byte; each step compares all ten sectors with it,
 // and tells the number of the call and the directory's bytes.
+#![tactic(auto)]
 ghost use Rattle.std.specs.Prelude.{◌<◌, ◌≤◌, length};
 
 use meaning::{Geometry, Handle, Mode, NewFile};

@@ -1,0 +1,11 @@
+use lib.ListN.{get_or}
+use mathlib.Core.Path.{ap, ◌∙◌}
+use Prim.Native.Nat.{ℕ}
+use Rattle.layout.proofs.gat_byte.Goals as goal
+
+pub returns : goal.returns
+returns c = let a = c.args in record {
+  is = c.wide.ensures.is ∙ ap (λ (at : ℕ). get_or a.image.now at 0)
+      c.gat_at.ensures;
+  small = c.wide.ensures.small;
+}
