@@ -1,5 +1,6 @@
 // The hash of a name.
 #![tactic(auto)]
+
 ghost use Rattle.std.specs.Prelude.{◌≡◌, eqb, length};
 ghost use Rattle.meaning.specs.Lists.{through};
 ghost use Rattle.meaning.specs.Names.{rotate, mix, hash};
