@@ -1,5 +1,6 @@
 // Attributes of two files held against each other.
 #![tactic(auto)]
+
 ghost use Rattle.std.specs.Prelude.{◌≡◌, ◌<◌};
 ghost use Rattle.layout.specs.Room.{Room, Slot};
 ghost use Rattle.compare_attributes.specs.Attributes.{differs_at, dates_differ, others_differ};

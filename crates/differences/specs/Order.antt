@@ -212,10 +212,14 @@ unfolding rising
 rising-in [] i = i
 rising-in (n ∷ ns) i = ⊎_elim (λ q. in-here ns q) (λ j. there (rising-in ns j)) (put_in n (rising ns) i)
 
-pub in-rising : {ns : List (List ℕ)} {x : List ℕ} → In x ns → In x (rising ns)
+-- the same, with the name before the names
+rising-keeps : {x : List ℕ} {ns : List (List ℕ)} → In x ns → In x (rising ns)
 unfolding rising
-in-rising (here {xs = ns}) = in-put _ (rising ns)
-in-rising (there {y = n} {xs = ns} i) = put_keeps n (rising ns) (in-rising i)
+rising-keeps (here {xs = ns}) = in-put _ (rising ns)
+rising-keeps (there {y = n} {xs = ns} i) = put_keeps n (rising ns) (rising-keeps i)
+
+pub in-rising : {ns : List (List ℕ)} {x : List ℕ} → In x ns → In x (rising ns)
+in-rising i = rising-keeps i
 
 put-length : (n : List ℕ) (ms : List (List ℕ)) → length (put n ms) ≤ suc (length ms)
 put-length n [] = rw (put-none n) (omega arith)
