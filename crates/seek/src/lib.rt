@@ -1,5 +1,6 @@
 // The granules of a file, found by walking its chain.
 #![tactic(auto)]
+
 ghost use Rattle.std.specs.Prelude.{◌≡◌, ◌+◌, ◌*◌, ◌<◌, ◌≤◌, get_or};
 ghost use Rattle.meaning.specs.Lists.{each};
 ghost use Rattle.meaning.specs.Entries.{entry_granules};
