@@ -1,6 +1,7 @@
 // The owner map (02, §8): one bit a granule, laid out as the GAT is, a byte a block. A bit is clear where the granule is open: its GAT bit is
 // set, and no run holds it so far. So "its GAT bit is set" and "it is in no two runs" are one test, and a run is tested and taken by masks.
 #![tactic(auto)]
+
 ghost use Rattle.std.specs.Prelude.{◌≡◌, ◌+◌, ◌*◌, ◌<◌, ◌≤◌, length, get_or};
 ghost use Rattle.meaning.specs.Layout.{most_blocks, most_units};
 ghost use Rattle.layout.specs.Room.{Room, Read};
