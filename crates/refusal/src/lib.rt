@@ -1,5 +1,6 @@
 // A refusal as a value: made, handed on, naming an image; the slot that it tells of; and 12 for what is lent too short.
 #![tactic(auto)]
+
 ghost use Rattle.std.specs.Prelude.{◌≡◌};
 ghost use Rattle.meaning.specs.Refusal.{unplaced, placed, naming, carried, slot_told};
 ghost use Rattle.refusal.specs.Short.{short, short_of_two};
