@@ -61,3 +61,5 @@ unfolding present
 same_whole nothing nothing neither f e u = absurd (let z : 0 ≡ 1 = ap present e in omega arith)
 same_whole (found f₀) (found f') (both a) f e u =
     let z = Named.found-inj f₀ f e in ap {B = Found} found (alike-eq f₀ f' a (subst (λ (y : File). T (not (is_system y))) (sym z) u) ∙ z)
+same_whole (found f₀) nothing x f e u = elim x [ ]
+same_whole nothing (found f') x f e u = elim x [ ]
