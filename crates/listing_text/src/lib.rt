@@ -1,5 +1,6 @@
 // The text of the listing, put into a lent buffer. Each function answers the place after what it has put.
 #![tactic(auto)]
+
 ghost use Rattle.std.specs.Prelude.{◌≡◌, [], ◌∷◌, ◌+◌, ◌<◌, ◌≤◌, length};
 ghost use Rattle.meaning.specs.Listing.{digits, decimal, stripped, slashed, name_text, line};
 ghost use Rattle.listing_text.specs.Put.{Put, none, files_line, free_line};
