@@ -1,5 +1,6 @@
 // How far a file reaches, and how many granules a size needs.
 #![tactic(auto)]
+
 ghost use Rattle.std.specs.Prelude.{◌≡◌, ◌≤◌, length};
 ghost use Rattle.meaning.specs.Layout.{granules_for};
 ghost use Rattle.meaning.specs.Entries.{entry_granules};
