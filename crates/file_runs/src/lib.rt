@@ -1,6 +1,7 @@
 // A file gone along from its first byte to its last, run by run. The granules of a run stand beside one another, and so do its bytes: whoever
 // goes through a whole file gets one part of the image for each run, and walks each entry once.
 #![tactic(auto)]
+
 ghost use Rattle.std.specs.Prelude.{◌≡◌, ◌*◌, ◌<◌, ◌≤◌, length};
 ghost use Rattle.meaning.specs.Layout.{granule_bytes};
 ghost use Rattle.meaning.specs.Chain.{owned};
