@@ -97,7 +97,8 @@ module _ (g : Geometry) where
       rw e (same-trans g d d' (through (free_granule g) d' (entry_granules g d' at)) snd.room f.same
       (same-all g d' (entry_granules g d' at) r' (low-entry g d' s' at u')))
 
-  pub unchaining-stop : {d d' d'' : List ℕ} {most s at left m : ℕ} → Walkable g d → Unchaining d most s d' at left → 0 < left → d'' ≡ through (free_granule g) d'
+  pub unchaining-stop : {d d' d'' : List ℕ} {most s at left m : ℕ} → Walkable g d → Unchaining d most s d' at left → 0 < left
+      → d'' ≡ through (free_granule g) d'
       (entry_granules g d' at)
       → m ≡ marker g d at → (m ≡ 0xfe → ⊥) → d'' ≡ through (free_granule g) d (each (entry_granules g d) (chain_from g d most s))
   unchaining-stop {d} {d'} {d''} {most} {s} {at} {left} {m} snd f n e q nay =
@@ -218,7 +219,8 @@ module _ (g : Geometry) where
 
   pub killed : {d d' d'' : List ℕ} {n s : ℕ} → Walkable g d → Used g d s → n ≡ directory_sectors g d → d' ≡ through (free_granule g) d
       (each (entry_granules g d) (chain_from g d (8 * (n - 2)) s))
-      → d'' ≡ through (kill_entry g) d' (chain_from g d' (8 * (n - 2)) s) → d'' ≡ through (kill_entry g) (through (free_granule g) d (owned g d s)) (chain g d s)
+      → d'' ≡ through (kill_entry g) d' (chain_from g d' (8 * (n - 2)) s) → d'' ≡ through (kill_entry g) (through (free_granule g) d (owned g d s))
+      (chain g d s)
   unfolding owned chain
   killed {d} {d'} {d''} {n} {s} snd u q e f =
       let w : 8 * (n - 2) ≡ length (slots g d) = ap (λ (k : ℕ). 8 * (k - 2)) q ∙ sym (slots_length g d snd.room.ten snd.room.thirty) in

@@ -1,5 +1,6 @@
 // Granules taken and given back, entries cleared; the free slots and granules.
 #![tactic(auto)]
+
 ghost use Rattle.std.specs.Prelude.{◌≡◌, ◌+◌, ◌*◌, ◌%◌, ◌<◌, ◌≤◌, length, eqb, [], ◌∷◌};
 ghost use Rattle.meaning.specs.Lists.{count, each, through, first_or, all, every, some};
 ghost use Rattle.meaning.specs.Free.{free_granules, free_slots};

@@ -1,0 +1,6 @@
+use Rattle.space.proofs.Looks.{units-some}
+use Rattle.space.proofs.units_taken.Goals as goal
+
+pub returns : goal.returns
+returns c = let a = c.args in units-some a.g a.image.now a.b a.u a.n c.requires.1
+    c.requires.2 c.gat_byte.ensures.is c.gat_byte.ensures.small c.mask.ensures.is
