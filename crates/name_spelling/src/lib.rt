@@ -1,5 +1,6 @@
 // Whether a name is well formed, and what a name that comes in is taken for.
 #![tactic(auto)]
+
 ghost use Rattle.std.specs.Prelude.{◌≡◌, true, ◌&&◌, ◌+◌, ◌-◌, ◌≤◌, eqb, length, get_or, take, drop};
 ghost use Rattle.meaning.specs.Lists.{every};
 ghost use Rattle.meaning.specs.Names.{letter, padded, well_formed, fold_byte, fold, blanks, good, bad_place};

@@ -1,0 +1,11 @@
+use Rattle.meaning.specs.Names.{blanks}
+use lib.ListN.{take, drop}
+use Prim.Native.Nat.{◌+◌, ◌-◌, ◌≤◌}
+use mathlib.Core.Path.{◌≡◌}
+use Rattle.name_spelling.proofs.past_blanks.Given as goal
+
+abbrev pub invariant-loop-i : goal.invariant-loop-i
+invariant-loop-i l = (l.from + blanks (take (l.to - l.from) (drop l.from l.name)) ≡ l.i + blanks (take (l.to - l.i) (drop l.i l.name))) × (l.i ≤ l.to)
+
+abbrev pub decreases-loop-i : goal.decreases-loop-i
+decreases-loop-i l = l.to - l.i
