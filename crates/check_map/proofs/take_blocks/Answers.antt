@@ -34,7 +34,8 @@ pub loop-u-preserved : goal.loop-u-preserved
 loop-u-preserved c = let loop-test = c.loop-u-test in let l = c.loop-u in taking_step l.invariant loop-test.true c.take_units.ensures c.if-not-take_units.false
 
 pub take_units-requires-2 : goal.take_units-requires-2
-take_units-requires-2 c = let i = c.loop-u.invariant in let l = i.unit in let k = c.loop-u-test.false in let p = c.requires in (taking-block i p.2, omega arith, p.1, i.some)
+take_units-requires-2 c = let i = c.loop-u.invariant in let l = i.unit in let k = c.loop-u-test.false in let p = c.requires in
+    (taking-block i p.2, omega arith, p.1, i.some)
 
 pub returns : goal.returns
 returns c = taking-end c.loop-u.invariant c.take_units-2.ensures

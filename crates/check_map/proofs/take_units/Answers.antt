@@ -7,7 +7,8 @@ pub overflow_sub-mask : goal.overflow_sub-mask
 overflow_sub-mask c = let q = one-shl-two c.args.n c.requires.3 (let p = c.requires in omega arith) in omega arith
 
 pub returns-then-x-mask-ne0 : goal.returns-then-x-mask-ne0
-returns-then-x-mask-ne0 c = let a = c.args in let p = c.requires in takes-no a.units a.block a.unit a.n _ (p).1 (p).2 c.byte_of-x.ensures.is c.if-x-mask-ne0.true
+returns-then-x-mask-ne0 c = let a = c.args in let p = c.requires in
+    takes-no a.units a.block a.unit a.n _ (p).1 (p).2 c.byte_of-x.ensures.is c.if-x-mask-ne0.true
 
 pub overflow_cast-map : goal.overflow_cast-map
 overflow_cast-map c = omega (
