@@ -1,6 +1,7 @@
 // The names of two disks, rising. The files of either disk are put into the order of their names once, as a table of slots; then the two
 // tables are gone along side by side.
 #![tactic(auto)]
+
 ghost use Rattle.std.specs.Prelude.{◌≡◌, ◌+◌, ◌<◌, ◌≤◌, length, get_or, take, drop};
 ghost use Rattle.meaning.specs.Entries.{name_of};
 ghost use Rattle.layout.specs.Room.{Room, Slot};
