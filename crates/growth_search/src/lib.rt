@@ -1,5 +1,6 @@
 // What a growth looks for: the granule and the slot that come next, and whether there are enough of both. The disk stays as it is.
 #![tactic(auto)]
+
 ghost use Rattle.std.specs.Prelude.{◌≡◌, ◌+◌, ◌*◌, ◌≤◌, ◌<◌, length, ltb};
 ghost use Rattle.meaning.specs.Layout.{granules, most_units};
 ghost use Rattle.meaning.specs.Free.{free_granules};

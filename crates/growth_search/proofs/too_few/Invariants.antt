@@ -1,0 +1,15 @@
+use Rattle.space.proofs.Clear.{Freed}
+use Prim.Native.Nat.{◌-◌, ◌≤◌, ◌*◌}
+use Rattle.growth_search.proofs.too_few.Given as goal
+
+abbrev pub invariant-loop-b : goal.invariant-loop-b
+invariant-loop-b l = (l.b ≤ l.g.blocks) × (l.n ≤ 8 * (l.g.blocks - l.b)) × Freed l.g l.image l.b l.n
+
+abbrev pub decreases-loop-b : goal.decreases-loop-b
+decreases-loop-b l = l.b
+
+abbrev pub invariant-loop-b-2 : goal.invariant-loop-b-2
+invariant-loop-b-2 l = (l.b ≤ l.g.blocks) × (l.n ≤ 8 * (l.g.blocks - l.b)) × Freed l.g l.image l.b l.n
+
+abbrev pub decreases-loop-b-2 : goal.decreases-loop-b-2
+decreases-loop-b-2 l = l.b
