@@ -1,6 +1,7 @@
 // An entry as a whole: its name, what the rules ask of it, tested at its slot, whatever file it is of and whether it is in use or killed; and
 // a new one put.
 #![tactic(auto)]
+
 ghost use Rattle.std.specs.Prelude.{◌≡◌, ◌+◌, ◌<◌, ◌≤◌, length, set};
 ghost use Rattle.std.proofs.lemmas.List.Edits.{sets};
 ghost use Rattle.meaning.specs.Layout.{entry_at, hit_at};
