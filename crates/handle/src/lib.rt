@@ -1,6 +1,7 @@
 // What every call with a handle tests first, in the table's order: 1, 2, 12, 7, and then 6.
 // `checked` is the answer of the check of the whole disk; `ranged` is the call's own test 12.
 #![tactic(auto)]
+
 ghost use Rattle.std.specs.Prelude.{◌≡◌, [], ◌∷◌, ltb};
 ghost use Rattle.meaning.specs.Lists.{all};
 ghost use Rattle.meaning.specs.Layout.{sector_numbers};
