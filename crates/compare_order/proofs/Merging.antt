@@ -5,7 +5,7 @@ use mathlib.Core.Bool.{Bool, true, false}
 use mathlib.Core.List.{List}
 use Prim.Native.Nat.{ℕ, suc, ◌+◌, ◌≤◌, ◌<◌}
 use native.Mathlib.Omega.{arith}
-use lib.ListN.{length, get_or}
+use lib.ListN.{get_or}
 use Rattle.meaning.specs.Entries.{name_of}
 use Rattle.meaning.specs.declared.Geometry.{Geometry}
 use Rattle.lists.specs.Tests.{le-or-lt}
@@ -13,7 +13,7 @@ use Rattle.differences.specs.Compare.{before}
 use Rattle.differences.specs.Order.{never, before_self, before_back, before_on, before-neither}
 use Rattle.compare_order.specs.Whole.{WholeDisk, StartsFile}
 use Rattle.compare_order.specs.Table.{name_in, InOrder, Reached}
-use Rattle.compare_order.specs.Walk.{Least, name_at, NextPair, Merges}
+use Rattle.compare_order.specs.Walk.{Least, name_at, Merges}
 use Rattle.compare_order.proofs.Pairs.{none_left, only-first, only-second, on_both}
 
 -- One table ---------------------------------------------------------------------------------------------------------------

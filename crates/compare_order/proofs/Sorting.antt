@@ -1,15 +1,14 @@
 -- The table of the files, slot by slot: where a file goes, and what the table is then.
 use mathlib.Core.Path.{◌≡◌, refl, sym, ap, subst, ◌∙◌}
-use mathlib.Core.Logic.{◌⊎◌, inl, inr, ⊎_elim}
+use mathlib.Core.Logic.{⊎_elim}
 use mathlib.Core.Bool.{Bool, true, false}
 use mathlib.Core.List.{List}
 use Prim.Native.Nat.{ℕ, suc, ◌+◌, ◌-◌, ◌*◌, ◌/◌, ◌%◌, ◌≤◌, ◌<◌}
 use native.Mathlib.Omega.{arith}
-use lib.ListN.{length, get_or}
+use lib.ListN.{get_or}
 use Rattle.meaning.specs.Layout.{directory_sectors}
 use Rattle.meaning.specs.Entries.{in_use_primary, name_of}
 use Rattle.meaning.specs.declared.Geometry.{Geometry}
-use Rattle.layout.specs.Room.{Slot}
 use Rattle.lists.specs.Tests.{le-or-lt}
 use Rattle.differences.specs.Compare.{before}
 use Rattle.differences.specs.Order.{never, before_on, before-neither}

@@ -1,5 +1,5 @@
 -- The walk over the names of two disks, rising: what a step of it is given and gives.
-use Rattle.std.specs.Prelude.{◌≡◌, Bool, true, false, cond, List, [], ◌∷◌, ℕ, ◌+◌, ◌<◌, ◌≤◌, eqb, length}
+use Rattle.std.specs.Prelude.{◌≡◌, true, false, cond, List, [], ◌∷◌, ℕ, ◌+◌, ◌<◌, ◌≤◌, eqb, length}
 use Rattle.meaning.specs.Lists.{keep}
 use Rattle.meaning.specs.Layout.{entry_at}
 use Rattle.meaning.specs.Entries.{name_of}

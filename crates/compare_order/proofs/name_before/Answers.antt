@@ -1,4 +1,3 @@
-use Prim.Native.Nat.{◌-◌}
 use Rattle.compare_order.proofs.Names.{alike-start, alike-on, alike-stop, alike_end}
 use Rattle.compare_order.proofs.name_before.Goals as goal
 

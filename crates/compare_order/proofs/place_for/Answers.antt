@@ -3,7 +3,7 @@ use Rattle.differences.specs.Compare.{before}
 use Rattle.meaning.specs.Entries.{name_of}
 use mathlib.Core.Path.{ap, sym, ◌∙◌}
 use native.Mathlib.Omega.{arith}
-use Prim.Native.Nat.{ℕ, ◌+◌, ◌-◌, ◌/◌}
+use Prim.Native.Nat.{ℕ, ◌+◌, ◌/◌}
 use Rattle.compare_order.proofs.place_for.Goals as goal
 
 pub loop-low-init : goal.loop-low-init

@@ -1,7 +1,6 @@
 use Rattle.compare_order.proofs.Sorting.{order-start, order-past, order-end}
 use mathlib.Core.Path.{sym, ◌∙◌}
 use native.Mathlib.Omega.{arith}
-use Prim.Native.Nat.{◌-◌}
 use Rattle.compare_order.proofs.sort.Goals as goal
 
 pub columns-columns-requires : goal.columns-columns-requires
