@@ -3,6 +3,7 @@
 // number is worked out, so nothing is divided. space::free_count counts by whole bytes: it cannot serve here, for the longest stretch hangs on
 // which bits are clear and not on how many.
 #![tactic(auto)]
+
 ghost use Rattle.std.specs.Prelude.{◌≡◌, ◌≤◌};
 ghost use Rattle.meaning.specs.FreeSpace.{free_space};
 ghost use Rattle.free_space.specs.Pass.{Gat, EightBlocks, RoomLeft, BlockPassed, Tells, ended, longer, met};
