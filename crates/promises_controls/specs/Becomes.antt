@@ -52,6 +52,7 @@ slots b = differ 0x82 0x80 refl (ap (first_or 0) (b.slots' puls other))
 -- untouched: a place that is no part of LEER
 just : (x a : ℕ) → In x (a ∷ []) → x ≡ a
 just x a In.here = refl
+just x a (In.there i) = elim i [ ]
 
 only : (x a : ℕ) → In x (a ∷ a ∷ []) → x ≡ a
 only x a In.here = refl

@@ -105,6 +105,7 @@ same-said x y (found f) (found f') n (in_both p u) (in_both q v) = record {
     other = one-flag x.other y.other _ u.other v.other;
   };
 }
+same-said x y nothing nothing n p q = elim p [ ]
 
 -- Whatever one tells the other tells too, and alike; each tells it once, and by rising names.
 pub compare-two : (g : Geometry) (d : List ℕ) (g' : Geometry) (d' : List ℕ) (most most' : ℕ) (told told' : ℕ → Difference)
