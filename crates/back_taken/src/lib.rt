@@ -1,5 +1,6 @@
 // Whether granules are taken: those of an entry, of entries written down in a list.
 #![tactic(auto)]
+
 ghost use Rattle.std.specs.Prelude.{◌≡◌};
 ghost use Rattle.meaning.specs.Lists.{each, some};
 ghost use Rattle.meaning.specs.Layout.{taken};
