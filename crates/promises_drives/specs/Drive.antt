@@ -41,10 +41,10 @@ module _ (p : Pair) (m : List ℕ) where
       by false t = searched-drive
 
 -- what holds of the call on each drive, of the call without a number and of every refusal holds of what is answered
-pub by_name : {A : Type 0} (P : A → Type 0) (p : Pair) (numbered : Bool) (k : ℕ) (call : ℕ → A) (without : A) (refused : Refusal → A)
+pub by-name : {A : Type 0} (P : A → Type 0) (p : Pair) (numbered : Bool) (k : ℕ) (call : ℕ → A) (without : A) (refused : Refusal → A)
     → ((j : ℕ) → IsDrive j → P (call j)) → P without → ((c : Refusal) → P (refused c)) → P (by_name p numbered k call without refused)
 unfolding by_name on_drive
-by_name P p numbered k call without refused x y z = by numbered (eqb k 0) (eqb k 1) (accepted (tested p).number)
+by-name P p numbered k call without refused x y z = by numbered (eqb k 0) (eqb k 1) (accepted (tested p).number)
   where
     by : (s t u v : Bool) → P (cond s (cond t (call 0) (cond u (call 1) (refused no_such_drive))) (cond v without (refused (tested p))))
     by true true u v = x 0 zeroth

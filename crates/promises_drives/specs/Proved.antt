@@ -11,7 +11,7 @@ use Rattle.drives.specs.ByHandle.{read_record, read_sector, write_record, allot,
 use Rattle.drives.specs.declared.DriveCreated.{DriveCreated}
 use Rattle.promises_drives.specs.Statement.{IsDrive, zeroth, first, OnOne, EveryNumber, Spares, Without, EverySearch, OneStays}
 use Rattle.promises_drives.specs.Statement.{NoDrive, Sixteen, BothTested, EveryTest, Names, EveryName}
-use Rattle.promises_drives.specs.Drive.{on-drive, on_none, searched-drive, takes-drive, by_name, naming-number}
+use Rattle.promises_drives.specs.Drive.{on-drive, on_none, searched-drive, takes-drive, by-name, naming-number}
 
 pub every-number : EveryNumber
 unfolding look_up open_file create read_record read_sector write_record allot trim kill by_name
@@ -46,7 +46,7 @@ Stays p r = (r.1 ≡ p.image0) ⊎ (r.2 ≡ p.image1)
 pub one-stays : OneStays
 unfolding create
 one-stays p numbered k m f checking =
-    by_name (Stays p) p numbered k (create_on p m f checking) (create_on p m f checking (takes p m)) (λ c. (not_created c, p.image0, p.image1))
+    by-name (Stays p) p numbered k (create_on p m f checking) (create_on p m f checking (takes p m)) (λ c. (not_created c, p.image0, p.image1))
     on (on (takes p m) (takes-drive p m)) (λ c. inl refl)
   where
     on : (j : ℕ) → IsDrive j → Stays p (create_on p m f checking j)

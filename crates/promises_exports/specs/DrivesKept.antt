@@ -199,10 +199,10 @@ module _ (p : Pair) where
   -- Calls by name --------------------------------------------------------------------------------------------------------------------------------
 
   -- what holds of the call on each drive, of the call without a number, of 16 and of what was found of both disks, holds of what is answered
-  by_name : {A : Type 0} (P : A → Type 0) (numbered : Bool) (k : ℕ) (call : ℕ → A) (without : A) (refused : Refusal → A)
+  by-name : {A : Type 0} (P : A → Type 0) (numbered : Bool) (k : ℕ) (call : ℕ → A) (without : A) (refused : Refusal → A)
       → ((j : ℕ) → IsDrive j → P (call j)) → P without → P (refused no_such_drive) → P (refused (tested p)) → P (by_name p numbered k call without refused)
   unfolding by_name
-  by_name P numbered k call without refused x y z u = by numbered (accepted (tested p).number)
+  by-name P numbered k call without refused x y z u = by numbered (accepted (tested p).number)
     where
       by : (s t : Bool) → P (cond s (on_drive k call (refused no_such_drive)) (cond t without (refused (tested p))))
       by true t = on-either P k call (refused no_such_drive) x z
@@ -250,7 +250,7 @@ module _ (p : Pair) where
       record {
         is = refl;
         numbered =
-            by_name (λ (x : DriveLookedUp). In x.refusal.number (0 ∷ numbers_on c)) numbered k _ _ not_looked_up
+            by-name (λ (x : DriveLookedUp). In x.refusal.number (0 ∷ numbers_on c)) numbered k _ _ not_looked_up
             (λ j is. named-number j c _ refl) (named-number (searched p n) c _ refl) (sixteen c)
             (in-append-l (3 ∷ 4 ∷ 16 ∷ []) tested-number);
         refuses = λ z. refl;
@@ -302,7 +302,7 @@ module _ (p : Pair) where
         λ z. let y : number (geometry p j) (image p j) c ≢ 0 = λ e. z (naming-number j _ ∙ e) in
             refused-drive j _ y ((every_call (geometry p j) (image p j) c).refuses y).1,
       ) in
-      let u = by_name P numbered k _ _ not_opened one (one (searched p n) (searched-drive p n)) (sixteen c, λ z. refl)
+      let u = by-name P numbered k _ _ not_opened one (one (searched p n) (searched-drive p n)) (sixteen c, λ z. refl)
       (in-append-l (12 ∷ 3 ∷ 4 ∷ 5 ∷ 16 ∷ []) tested-number, λ z. refl) in
       record {
         is = refl;
@@ -345,7 +345,7 @@ module _ (p : Pair) where
             let q = (every_call (geometry p j) (image p j) c).refuses y in
             (refused-drive j _ y q.1.0, left-as-was j is _ q.0),
       ) in
-      let u = by_name P numbered k _ _ (λ c. (not_created c, p.image0, p.image1)) one (one (takes p n) (takes-drive p n)) (sixteen c, λ z. (refl, refl))
+      let u = by-name P numbered k _ _ (λ c. (not_created c, p.image0, p.image1)) one (one (takes p n) (takes-drive p n)) (sixteen c, λ z. (refl, refl))
       (in-append-l (12 ∷ 3 ∷ 5 ∷ 8 ∷ 16 ∷ []) tested-number, λ z. (refl, refl)) in
       record {
         is = refl;
