@@ -1,5 +1,6 @@
 // Calls by name that look: look up and open. `checked` is the answer of the check of the whole disk.
 #![tactic(auto)]
+
 ghost use Rattle.std.specs.Prelude.{◌≡◌, ◌+◌, ◌*◌, ◌<◌, ◌≤◌, length};
 ghost use Rattle.meaning.specs.Refusal.{carried};
 ghost use Rattle.meaning.specs.Refusals.{check};
