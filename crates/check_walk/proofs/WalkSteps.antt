@@ -139,7 +139,8 @@ module _ (g : Geometry) (d : List ℕ) (s : ℕ) where
       let a : allows m₀ least 0 (first_runs k ++ run_granules g d s k) ≡ true
       = allows-append m₀ least 0 (first_runs k) (run_granules g d s k) ∙ rw (i.allowed, ← i.map) t.allowed in
       let l : length (first_runs k ++ run_granules g d s k) ≡ length (first_runs k) + run_length g d s k
-      = length-append (first_runs k) (run_granules g d s k) ∙ ap (λ (j : ℕ). length (first_runs k) + j) (length-count (run_start g d s k) (run_length g d s k)) in
+      = length-append (first_runs k) (run_granules g d s k) ∙ ap (λ (j : ℕ). length (first_runs k) + j) (length-count (run_start g d s k) (run_length
+      g d s k)) in
       let q = w.small in
       let v = i.few in
       record {
@@ -163,9 +164,9 @@ module _ (g : Geometry) (d : List ℕ) (s : ℕ) where
       = ap (each (run_granules g d s)) (count_cut h) ∙ Members.each_append (run_granules g d s) (count 0 k) (count k (runs g d s - k)) in
       and_l _ _ (sym (ap (allows m₀ least 0) c ∙ allows-append m₀ least 0 (first_runs k) (each (run_granules g d s) (count k (runs g d s - k)))) ∙ all-at _ e 2)
 
-  run_holds : (least k : ℕ) (m₀ : List ℕ) → k < runs g d s → entry_fits g d s least m₀ ≡ true → run_holds g d s k ≡ true
+  run-holds : (least k : ℕ) (m₀ : List ℕ) → k < runs g d s → entry_fits g d s least m₀ ≡ true → run_holds g d s k ≡ true
   unfolding runs_hold
-  run_holds least k m₀ h e = every-count (run_holds g d s) 0 (runs g d s) k (all-at _ e 1) (omega arith) (omega arith)
+  run-holds least k m₀ h e = every-count (run_holds g d s) 0 (runs g d s) k (all-at _ e 1) (omega arith) (omega arith)
 
   pub entering-bad : {least k n x : ℕ} {m₀ m m' m'' : List ℕ} → Entering least m₀ m k n → k < 4 → x ≡ block g d s k → (x ≡ 0xff → ⊥)
       → TakesRun g d s k least m m' 0 → Entered g d s least m₀ m'' (record { ok = false; runs = 0; granules = 0 })
@@ -189,7 +190,7 @@ module _ (g : Geometry) (d : List ℕ) (s : ℕ) where
           = and_r (allows m₀ least 0 (first_runs k)) (allows (marked m₀ 0 (first_runs k)) least 0 (run_granules g d s k))
           (sym (allows-append m₀ least 0 (first_runs k) (run_granules g d s k)) ∙ a) in
           let c : allows m least 0 (run_granules g d s k) ≡ true = ap (λ (l : List ℕ). allows l least 0 (run_granules g d s k)) i.map ∙ b in
-          not-both (all_yes (run_holds least k m₀ (omega (arith, above)) q) _ ∙ all_yes c _ ∙ all_none) (w.no' refl)
+          not-both (all_yes (run-holds least k m₀ (omega (arith, above)) q) _ ∙ all_yes c _ ∙ all_none) (w.no' refl)
       by false q = q
 
   -- the pairs past the last run

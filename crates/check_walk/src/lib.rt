@@ -1,5 +1,6 @@
 // The walk along a file's chain: it tests every entry that it meets, and takes the entry's granules off the owner map.
 #![tactic(auto)]
+
 ghost use Rattle.std.specs.Prelude.{◌≡◌, ◌+◌, ◌-◌, ◌*◌, ◌<◌, ◌≤◌, true, ◌||◌, ltb};
 ghost use Rattle.meaning.specs.Lists.{count, every};
 ghost use Rattle.meaning.specs.Layout.{field};

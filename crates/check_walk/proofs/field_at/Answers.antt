@@ -1,0 +1,13 @@
+use lib.ListN.{get_or}
+use Prim.Native.Nat.{ℕ, ◌+◌}
+use Rattle.meaning.specs.Layout.{field}
+use mathlib.Core.Path.{ap, ◌∙◌}
+use Rattle.check_walk.proofs.field_at.Goals as goal
+
+pub returns : goal.returns
+unfolding field
+returns c = record {
+  is = c.wide.ensures.is ∙ ap (λ (x : ℕ). get_or c.args.image.now (x + c.args.k) 0)
+      c.requires.1.is;
+  small = c.wide.ensures.small;
+}
