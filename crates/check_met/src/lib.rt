@@ -1,5 +1,6 @@
 // Whether each entry in use stands in the chain of a file: a byte a slot, 0 once the slot was met.
 #![tactic(auto)]
+
 ghost use Rattle.std.specs.Prelude.{◌≡◌, ◌+◌, ◌≤◌, length};
 ghost use Rattle.meaning.specs.Lists.{count, every};
 ghost use Rattle.meaning.specs.Layout.{slots};
