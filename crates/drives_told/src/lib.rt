@@ -1,5 +1,6 @@
 // What is told of a call on one of two drives (02 §9): the drive that a refusal names, and each call's answer with the drive's number.
 #![tactic(auto)]
+
 ghost use Rattle.std.specs.Prelude.{◌≡◌, ◌≤◌};
 ghost use Rattle.drives.specs.Pair.{no_such_drive, of_disk, naming', fault_drive, of_both, drive_of, answered};
 ghost use Rattle.drives.specs.ByName.{looked_up_on, opened_on, created_on, not_looked_up, not_opened, not_created};

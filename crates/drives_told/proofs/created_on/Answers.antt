@@ -1,0 +1,6 @@
+use mathlib.Core.Path.{refl}
+use Rattle.drives_told.proofs.created_on.Goals as goal
+
+-- src/lib.rt:121:1
+pub returns : goal.returns
+returns c = rw (c.naming.ensures, c.handle_on.ensures, c.drive_of.ensures) refl

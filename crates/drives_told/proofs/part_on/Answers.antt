@@ -1,0 +1,6 @@
+use mathlib.Core.Path.{refl}
+use Rattle.drives_told.proofs.part_on.Goals as goal
+
+-- src/lib.rt:141:1
+pub returns : goal.returns
+returns c = rw (c.naming.ensures, c.drive_of.ensures) refl
