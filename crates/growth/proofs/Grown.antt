@@ -30,8 +30,8 @@ module _ (g : Geometry) (p : ℕ) where
     pub ready : Ready g d' p
     pub many : length (owned g d' p) ≡ length (owned g d p) + k
 
-  by-ready : (lowest : Bool) (k : ℕ) (d d' : List ℕ) → Ready g d p → k ≤ length (free_granules g d) → grow_by g p (choice_by g lowest) k d ≡ grown d' → More d d'
-      k
+  by-ready : (lowest : Bool) (k : ℕ) (d d' : List ℕ) → Ready g d p → k ≤ length (free_granules g d) → grow_by g p (choice_by g lowest) k d ≡ grown d'
+      → More d d' k
   unfolding grow_by and_then
   by-ready lowest zero d d' y h q = let r : d ≡ d' = cc in subst (λ (l : List ℕ). More d l 0) r (record { ready = y; many = omega arith })
   by-ready lowest (suc k) d d' y h q = go (take_at g p (choice_by g lowest d) d) refl q (λ d₁ y₁ l. by-ready lowest k d₁ d' y₁ l)

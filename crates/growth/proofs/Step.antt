@@ -175,7 +175,8 @@ module _ (g : Geometry) (p : ℕ) (choice : List ℕ → ℕ) where
     longer-same : Places.Fits g d → m < granules g → entry_at g e + k < length d → field g longer e k ≡ v
     unfolding words
     longer-same w h l =
-        gat-field (set_field g d e k v) m e k (same-fits d (set_field g d e k v) (length-set d (entry_at g e + k) v) w) h ∙ get_or-set_same d (entry_at g e + k) v 0
+        gat-field (set_field g d e k v) m e k (same-fits d (set_field g d e k v) (length-set d (entry_at g e + k) v) w) h ∙ get_or-set_same d
+        (entry_at g e + k) v 0
         l
 
     longer-other : Places.Fits g d → m < granules g → (j : ℕ) → j ≢ k → field g longer e j ≡ field g d e j

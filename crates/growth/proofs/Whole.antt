@@ -116,7 +116,3 @@ module _ (g : Geometry) (d : List ℕ) (p : ℕ) where
 -- the GAT lies on the disk
 pub gat-inside : (g : Geometry) (d : List ℕ) → Room g d → 256 * g.start + 192 ≤ length d
 gat-inside g d r = let a = r.directory in let b = r.ten in let c = r.long in omega arith
-
-pub is-yes : {f a : Bool} → f ≡ a → not f ≡ false → a ≡ true
-is-yes {f = true} e z = sym e
-is-yes {f = false} e z = absurd (Members.false-no z (Members.true-T {b = true} refl))

@@ -1,5 +1,6 @@
 // A file grows: granules are taken run by run, first on paper, then on the disk.
 #![tactic(auto)]
+
 ghost use Rattle.std.specs.Prelude.{◌≡◌, true, false, cond, ◌+◌, ◌*◌, ◌/◌, ◌%◌, ◌<◌, ◌≤◌, length};
 ghost use Rattle.meaning.specs.Layout.{granules, field, set_field, take_granule, entry_at};
 ghost use Rattle.meaning.specs.Entries.{no_growth};
