@@ -67,7 +67,8 @@ module _ (g : Geometry) where
       (e ∙ ap (λ (z : ℕ). through (take_granule g) d' (count z len)) x' ∙ ap (λ (z : ℕ). through (take_granule g) d' (count (run_start g d s k) z)) y')
 
   -- the entries of a list
-  pub taking-entry : {d d' d'' es : List ℕ} {k n : ℕ} → Room g d → Listed g d es n → TakingBack d (λ j. each (entry_granules g d) (first_of es j)) d' k n → k < n
+  pub taking-entry : {d d' d'' es : List ℕ} {k n : ℕ} → Room g d → Listed g d es n → TakingBack d (λ j. each (entry_granules g d) (first_of es j)) d' k n
+      → k < n
       → d'' ≡ through (take_granule g) d' (entry_granules g d' (get_or es k 0)) → TakingBack d (λ j. each (entry_granules g d) (first_of es j)) d'' (k + 1) n
   taking-entry {d} {d'} {d''} {es} {k} {n} r l t h e =
       let o = l.entry k h in

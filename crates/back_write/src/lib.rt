@@ -1,5 +1,6 @@
 // What bring back writes: the granules of the entries written down are taken, and the entries set in use again.
 #![tactic(auto)]
+
 ghost use Rattle.std.specs.Prelude.{◌≡◌, ◌<◌};
 ghost use Rattle.meaning.specs.Lists.{each, through};
 ghost use Rattle.meaning.specs.Layout.{take_granule};
