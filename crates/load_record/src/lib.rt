@@ -1,5 +1,6 @@
 // Read program files (02 §12): one record a call.
 #![tactic(auto)]
+
 ghost use Rattle.std.specs.Prelude.{◌≡◌, [], ◌∷◌, ◌++◌, cond, ◌+◌, ◌<◌, ◌≤◌, length, get_or, take, drop, leb, eqb};
 ghost use Rattle.meaning.specs.Lists.{all};
 ghost use Rattle.meaning.specs.Refusals.{check};
