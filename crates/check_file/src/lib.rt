@@ -1,5 +1,6 @@
 // The check of one slot and of the file that starts there: the clauses of "A consistent disk" that speak of one file.
 #![tactic(auto)]
+
 ghost use Rattle.std.specs.Prelude.{◌≡◌, [], ◌∷◌};
 ghost use Rattle.meaning.specs.Layout.{field, hit};
 ghost use Rattle.meaning.specs.Entries.{end_byte};
