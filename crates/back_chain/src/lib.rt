@@ -1,5 +1,6 @@
 // A killed file, as far as it still stands: its chain is followed and its entries written down, and name and size are tested.
 #![tactic(auto)]
+
 ghost use Rattle.std.specs.Prelude.{◌≡◌, false, ◌<◌, ◌≤◌, length};
 ghost use Rattle.meaning.specs.Layout.{granules};
 ghost use Rattle.meaning.specs.Consistent.{link_holds_by};
