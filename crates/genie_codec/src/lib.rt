@@ -1,5 +1,6 @@
 // What a host holds of the library's values: a disk as five numbers and a flag, a handle as 19 bytes, a name as 11, flags as numbers.
 #![tactic(auto)]
+
 ghost use Rattle.std.specs.Prelude.{◌≡◌, cond, ◌+◌, ◌≤◌, length};
 ghost use Rattle.std.proofs.lemmas.List.Edits.{sets};
 ghost use Rattle.layout.specs.Room.{Below};

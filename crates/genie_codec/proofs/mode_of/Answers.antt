@@ -1,0 +1,11 @@
+use Rattle.genie_codec.specs.Words.{mode_of}
+use borrow.Author.Rules.{rules}
+use Rattle.genie_codec.proofs.mode_of.Goals as goal
+
+pub returns-then-sequential : goal.returns-then-sequential
+unfolding mode_of
+returns-then-sequential c = search rules
+
+pub returns : goal.returns
+unfolding mode_of
+returns c = search rules
