@@ -23,7 +23,6 @@ use Rattle.check_walk.proofs.WalkSteps.{from-above}
 use Rattle.lists.specs.Members
 use Rattle.lists.specs.Members.{In}
 use Rattle.laws.specs.Entry
-use Rattle.check_file.specs.Slots.{opens}
 use Rattle.check_file.proofs.Directory.{directory-lt}
 
 -- The map ---------------------------------------------------------------------------------------------------------------------

@@ -2,7 +2,6 @@
 use mathlib.Core.Path.{◌≡◌}
 use mathlib.Core.List.{List}
 use Prim.Native.Nat.{ℕ, ◌+◌, ◌*◌, ◌/◌, ◌≤◌}
-use native.Mathlib.Omega.{arith}
 use Rattle.meaning.specs.Layout.{directory_sectors, granule_sectors, most_blocks, round_up, granules}
 use Rattle.lists.specs.Sizes
 use Rattle.meaning.specs.declared.Geometry.{Geometry}
@@ -11,7 +10,8 @@ use Rattle.check_map.specs.Owners.{Window}
 use Rattle.check_map.specs.Eight.{Spans}
 use Rattle.check_walk.proofs.WalkSteps.{on-map}
 
-pub directory-on-map : (g : Geometry) (d : List ℕ) → Room g d → g.start / granule_sectors g + round_up (directory_sectors g d) (granule_sectors g) ≤ most_blocks *
+pub directory-on-map : (g : Geometry) (d : List ℕ) → Room g d → g.start / granule_sectors g + round_up (directory_sectors g d) (granule_sectors g) ≤
+    most_blocks *
     g.units
 directory-on-map g d room = on-map g d (g.start / granule_sectors g + round_up (directory_sectors g d) (granule_sectors g)) room
     (Sizes.touched-inside (Sizes.sectors-pos g) g.start (directory_sectors g d) (granules g) room.directory)

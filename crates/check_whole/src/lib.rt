@@ -1,5 +1,6 @@
 // The check of a whole disk whose geometry and image length fit: every clause of "A consistent disk".
 #![tactic(auto)]
+
 ghost use Rattle.std.specs.Prelude.{◌≡◌, ◌+◌, ◌/◌, ◌<◌};
 ghost use Rattle.meaning.specs.Layout.{directory_sectors, granule_sectors, round_up};
 ghost use Rattle.meaning.specs.Consistent.{length_holds, consistent};
