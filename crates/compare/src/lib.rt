@@ -1,5 +1,6 @@
 // Compare: the differences of two disks by rising names, one told a call.
 #![tactic(auto)]
+
 ghost use Rattle.std.specs.Prelude.{◌≡◌, ◌≤◌, drop};
 ghost use Rattle.meaning.specs.Entries.{name_of};
 ghost use Rattle.meaning.specs.Refusals.{check};
