@@ -11,8 +11,8 @@ use borrow.Author.Tests.{le-leb, lt-leb, lt-ltb, le-ltb, eq-eqb, ne_eqb, ltb-fal
 use Rattle.meaning.specs.Lists.{any}
 use Rattle.meaning.specs.Refusals.{first, accepted}
 use Rattle.lists.specs.Tests.{first-hit, first-skip, first-none, first-at, not_yes, not-no, is-yes, is-no, any-skip, any-one, not-both}
-use Rattle.load.specs.Records.{data_code, start_code, comment_code, is_code, data_bytes, follows, bad_count, code_at, count_at, end_of, item_refusals, position_of}
-use Rattle.load.specs.Records.{item_at}
+use Rattle.load.specs.Records.{data_code, start_code, comment_code, is_code, data_bytes, follows, bad_count, code_at, count_at, end_of, item_refusals}
+use Rattle.load.specs.Records.{item_at, position_of}
 use Rattle.load.specs.declared.Item.{Item}
 use Rattle.load_record.specs.Program.{broken, Looked}
 

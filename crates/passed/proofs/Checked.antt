@@ -124,7 +124,8 @@ module _ (g : Geometry) (d : List ℕ) where
   pub passed : (h : Handle) (ranged : Bool) (rest : List (ℕ × Bool)) → NonZero rest → {n : ℕ} → n ≡ first (handle_refusals g d h ranged rest) → n ≡ 0
       → Passed h ranged
   passed h ranged rest q e z =
-      let t : (k : ℕ) → (get_or (handle_refusals g d h ranged rest) k (0, false)).1 ≡ false = λ k. first-at (handle_refusals g d h ranged rest) (sym e ∙ z) q k in
+      let t : (k : ℕ) → (get_or (handle_refusals g d h ranged rest) k (0, false)).1 ≡ false = λ k. first-at (handle_refusals g d h ranged rest)
+      (sym e ∙ z) q k in
       let w = not-false _ (t (own_row 1)) in
       let c = disk-passed g d ((12, not ranged) ∷ stale g d h ∷ rest) (sym e ∙ z) in
       record {

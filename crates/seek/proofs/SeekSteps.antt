@@ -206,7 +206,8 @@ module _ (g : Geometry) (d : List ℕ) where
   walking_start k left u = record { rest = refl; used = u; low = omega arith }
 
   walking_on : {s k left at seek more : ℕ} → Walking s k left at seek more → 0 < more
-      → get_or (each (entry_granules g d) (chain_from g d left s)) k 0 ≡ get_or (entry_granules g d at ++ each (entry_granules g d) (onward g d (more - 1) at)) seek 0
+      → get_or (each (entry_granules g d) (chain_from g d left s)) k 0 ≡ get_or
+      (entry_granules g d at ++ each (entry_granules g d) (onward g d (more - 1) at)) seek 0
   walking_on {at = at} {seek = seek} {more = more} w h = w.rest ∙ ap (λ (l : List ℕ). get_or l seek 0) (chain_more more at (λ q. omega arith))
 
   pub walking_here : {s k left at seek more : ℕ} {r : Seek} → Walking s k left at seek more → 0 < more → Sought (entry_granules g d at) seek r → r.here ≡ true

@@ -12,4 +12,5 @@ pub overflow_mul-result : goal.overflow_mul-result
 overflow_mul-result c = omega (arith, mul-le-mul c.granule_bytes.ensures.few (let h = c.requires.2 in h))
 
 pub returns : goal.returns
-returns c = let count-holds = c.count_holds in let p = c.requires in size-good _ _ _ count-holds.ensures (ap not c.if-not-count_holds.false) c.size_of.ensures.is c.granule_bytes.ensures.is p.3
+returns c = let count-holds = c.count_holds in let p = c.requires in
+    size-good _ _ _ count-holds.ensures (ap not c.if-not-count_holds.false) c.size_of.ensures.is c.granule_bytes.ensures.is p.3

@@ -11,7 +11,8 @@ returns-then-field-eq-ENDS c = counting-stop _ _ c.loop-k.invariant c.loop-k-tes
     (sym c.field.ensures.is ∙ c.if-field-eq-ENDS.true)
 
 pub loop-k-preserved : goal.loop-k-preserved
-loop-k-preserved c = let loop-test = c.loop-k-test in let l = c.loop-k in counting-step _ _ l.invariant loop-test.true (λ q. c.if-field-eq-ENDS.false (c.field.ensures.is ∙ q)) c.field-in-loop-k.ensures.is
+loop-k-preserved c = let loop-test = c.loop-k-test in let l = c.loop-k in
+    counting-step _ _ l.invariant loop-test.true (λ q. c.if-field-eq-ENDS.false (c.field.ensures.is ∙ q)) c.field-in-loop-k.ensures.is
 
 pub returns : goal.returns
 returns c = counting-end _ _ c.loop-k.invariant c.loop-k-test.false

@@ -16,7 +16,8 @@ pub field-requires : goal.field-requires
 field-requires c = (c.requires.0.room, c.loop-left.invariant.0.used.slot, omega arith)
 
 pub returns-then-field-ne-HANDS_ON : goal.returns-then-field-ne-HANDS_ON
-returns-then-field-ne-HANDS_ON c = let loop-test = c.loop-left-test in let l = c.loop-left in let slots = c.slots-left in let p = c.requires in measuring-stop _ _ p.0 slots.ensures.is l.invariant.0 loop-test.true c.entry_length-owned.ensures c.field.ensures.is
+returns-then-field-ne-HANDS_ON c = let loop-test = c.loop-left-test in let l = c.loop-left in let slots = c.slots-left in let p = c.requires in
+    measuring-stop _ _ p.0 slots.ensures.is l.invariant.0 loop-test.true c.entry_length-owned.ensures c.field.ensures.is
     c.if-field-ne-HANDS_ON.true
 
 pub field-at-requires : goal.field-at-requires

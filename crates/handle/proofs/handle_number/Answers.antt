@@ -15,7 +15,8 @@ pub fresh-requires : goal.fresh-requires
 fresh-requires c = let p = c.requires in checked-room _ _ (checked _ _ p c.if-checked-ne0.false)
 
 pub returns-then-not-fresh : goal.returns-then-not-fresh
-returns-then-not-fresh c = let if1 = c.if-checked-ne0 in let p = c.requires in sym (check-then _ _ _ p if1.false ∙ first-skip (ap not c.if-not-ranged.false) _ _ ∙ first-hit
+returns-then-not-fresh c = let if1 = c.if-checked-ne0 in let p = c.requires in
+    sym (check-then _ _ _ p if1.false ∙ first-skip (ap not c.if-not-ranged.false) _ _ ∙ first-hit
     (not-no (is-false c.fresh.ensures c.if-not-fresh.true)) _ _)
 
 pub returns : goal.returns

@@ -10,10 +10,12 @@ returns-then-highest-h c = rw (← c.highest.ensures.is) (sym (all-no (lt-leb _ 
 
 pub returns-then-not-good_length : goal.returns-then-not-good_length
 unfolding in_range
-returns-then-not-good_length c = let highest = c.highest in rw (← highest.ensures.is) (sym (all_yes (le-leb _ _ c.if-highest-h.false) _ ∙ all-no (is-false c.good_length.ensures c.if-not-good_length.true)
+returns-then-not-good_length c = let highest = c.highest in
+    rw (← highest.ensures.is) (sym (all_yes (le-leb _ _ c.if-highest-h.false) _ ∙ all-no (is-false c.good_length.ensures c.if-not-good_length.true)
     _))
 
 pub returns : goal.returns
 unfolding in_range
-returns c = let if1 = c.if-highest-h in let highest = c.highest in rw (← highest.ensures.is) (sym (all_yes (le-leb _ _ if1.false) _ ∙ all_yes (is-true c.good_length.ensures c.if-not-good_length.false) _
+returns c = let if1 = c.if-highest-h in let highest = c.highest in
+    rw (← highest.ensures.is) (sym (all_yes (le-leb _ _ if1.false) _ ∙ all_yes (is-true c.good_length.ensures c.if-not-good_length.false) _
     ∙ all_one _))

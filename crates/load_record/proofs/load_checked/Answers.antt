@@ -6,11 +6,13 @@ use Rattle.load_record.proofs.load_checked.Goals as goal
 
 -- src/lib.rt:223:9
 pub returns-then-number-ne0 : goal.returns-then-number-ne0
-returns-then-number-ne0 c = let load-ranged = c.load_ranged-ranged in let p = c.requires in refused-first _ _ _ _ load-ranged.ensures c.reading_number-number.ensures (handed _ _ _ p c.carried.ensures) c.if-number-ne0.true
+returns-then-number-ne0 c = let load-ranged = c.load_ranged-ranged in let p = c.requires in
+    refused-first _ _ _ _ load-ranged.ensures c.reading_number-number.ensures (handed _ _ _ p c.carried.ensures) c.if-number-ne0.true
 
 -- src/lib.rt:232:9
 pub size_of-size-requires : goal.size_of-size-requires
-size_of-size-requires c = let a = c.args in has_room a.g a.image.now a.h a.buffer.now c.load_ranged-ranged.ensures c.reading_number-number.ensures c.if-number-ne0.false
+size_of-size-requires c = let a = c.args in
+    has_room a.g a.image.now a.h a.buffer.now c.load_ranged-ranged.ensures c.reading_number-number.ensures c.if-number-ne0.false
 
 -- src/lib.rt:233:9
 pub next_record-r-requires : goal.next_record-r-requires
@@ -23,7 +25,9 @@ next_record-r-requires c = let a = c.args in (
 
 -- src/lib.rt:235:9
 pub returns-then-r-ne0 : goal.returns-then-r-ne0
-returns-then-r-ne0 c = let next-record = c.next_record-r in let if1 = c.if-number-ne0 in let reading-number = c.reading_number-number in let load-ranged = c.load_ranged-ranged in let p = c.requires in refused-own _ _ _ _ load-ranged.ensures reading-number.ensures if1.false next-record.ensures.is (handed _ _ _ p c.carried-then-r-ne0.ensures)
+returns-then-r-ne0 c = let next-record = c.next_record-r in let if1 = c.if-number-ne0 in let reading-number = c.reading_number-number in
+    let load-ranged = c.load_ranged-ranged in let p = c.requires in
+    refused-own _ _ _ _ load-ranged.ensures reading-number.ensures if1.false next-record.ensures.is (handed _ _ _ p c.carried-then-r-ne0.ensures)
     c.if-r-ne0.true
 
 -- src/lib.rt:244:5
@@ -42,5 +46,7 @@ hand_out-requires c = let a = c.args in let p = program a.g a.image.now a.h a.bu
 
 -- src/lib.rt:210:1
 pub returns : goal.returns
-returns c = let hand-out = c.hand_out in let if2 = c.if-r-ne0 in let next-record = c.next_record-r in let if1 = c.if-number-ne0 in let reading-number = c.reading_number-number in let load-ranged = c.load_ranged-ranged in let p = c.requires in handed_out _ _ _ _ load-ranged.ensures reading-number.ensures if1.false next-record.ensures.is (handed _ _ 0 p c.carried-2.ensures)
+returns c = let hand-out = c.hand_out in let if2 = c.if-r-ne0 in let next-record = c.next_record-r in let if1 = c.if-number-ne0 in
+    let reading-number = c.reading_number-number in let load-ranged = c.load_ranged-ranged in let p = c.requires in
+    handed_out _ _ _ _ load-ranged.ensures reading-number.ensures if1.false next-record.ensures.is (handed _ _ 0 p c.carried-2.ensures)
     if2.false hand-out.ensures

@@ -46,4 +46,5 @@ pub overflow_sub-result : goal.overflow_sub-result
 overflow_sub-result c = let if1 = c.if-x-ne0 in let p = c.requires in (address-there _ (long _ _ _ p.0) p.2 if1.false p.3).two
 
 pub returns : goal.returns
-returns c = let byte-at2 = c.byte_at-high in let byte_at = c.byte_at-low in let if1 = c.if-x-ne0 in let p = c.requires in told-one _ _ _ p.2 if1.false p.3 (ap₂ (λ (x y : ℕ). x + 256 * y) byte_at.ensures.is byte-at2.ensures.is) c.place_after-next.ensures
+returns c = let byte-at2 = c.byte_at-high in let byte_at = c.byte_at-low in let if1 = c.if-x-ne0 in let p = c.requires in
+    told-one _ _ _ p.2 if1.false p.3 (ap₂ (λ (x y : ℕ). x + 256 * y) byte_at.ensures.is byte-at2.ensures.is) c.place_after-next.ensures

@@ -11,7 +11,8 @@ pub loop-row-init : goal.loop-row-init
 loop-row-init c = (omega arith, omega arith, finding-start _ _ _)
 
 pub loop-s-init : goal.loop-s-init
-loop-s-init c = let e = c.columns-columns.ensures.is in let t = c.requires.0.thirty in (row-start _ _ c.loop-row-test.true (omega arith), c.loop-row.invariant.1, c.loop-row.invariant.2)
+loop-s-init c = let e = c.columns-columns.ensures.is in let t = c.requires.0.thirty in
+    (row-start _ _ c.loop-row-test.true (omega arith), c.loop-row.invariant.1, c.loop-row.invariant.2)
 
 pub hit-requires : goal.hit-requires
 hit-requires c = let r = row-slot c.loop-s.invariant.0 (let z = c.loop-s-test.true in omega arith) in

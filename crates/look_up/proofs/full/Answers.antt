@@ -16,5 +16,6 @@ returns-then-main-g c = sym (any-skip (ap not c.if-not-checking.false) _ ∙ any
 
 pub returns : goal.returns
 unfolding full
-returns c = let if1 = c.if-not-checking in let a = c.args in sym (any-skip (ap not if1.false) _ ∙ any-skip (ne_eqb _ _ (λ q. c.if-main-g.false (c.word-main.ensures.is ∙ q))) _ ∙ any-one _ ∙ ap (eqb a.code)
+returns c = let if1 = c.if-not-checking in let a = c.args in
+    sym (any-skip (ap not if1.false) _ ∙ any-skip (ne_eqb _ _ (λ q. c.if-main-g.false (c.word-main.ensures.is ∙ q))) _ ∙ any-one _ ∙ ap (eqb a.code)
     (sym c.word-main.ensures.is))

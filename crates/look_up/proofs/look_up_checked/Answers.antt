@@ -19,7 +19,8 @@ returns-then-checked-ne0 c = let p = c.requires in told-stop _ _ _ p c.if-checke
 
 -- src/lib.rt:87:9
 pub returns-then-n-ne-NO_PLACE : goal.returns-then-n-ne-NO_PLACE
-returns-then-n-ne-NO_PLACE c = let if1 = c.if-checked-ne0 in let p = c.requires in told _ _ _ (by_place _ _ _ p if1.false c.placed.ensures c.incoming-n.ensures.place)
+returns-then-n-ne-NO_PLACE c = let if1 = c.if-checked-ne0 in let p = c.requires in
+    told _ _ _ (by_place _ _ _ p if1.false c.placed.ensures c.incoming-n.ensures.place)
     (sym (check-then _ _ _ p if1.false ∙ first-hit (not-no (hands-bad c.incoming-n.ensures c.if-n-ne-NO_PLACE.true)) _ _)) refl refl
 
 -- src/lib.rt:93:9

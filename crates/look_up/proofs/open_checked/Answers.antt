@@ -16,7 +16,8 @@ use Rattle.look_up.proofs.open_checked.Goals as goal
 
 -- src/lib.rt:216:9
 pub returns-then-checked-ne0 : goal.returns-then-checked-ne0
-returns-then-checked-ne0 c = let p = c.requires in open-refused _ _ _ _ _ _ (by-own _ _ _ p refl) c.refused.ensures (check-stop _ _ _ p c.if-checked-ne0.true) c.if-checked-ne0.true
+returns-then-checked-ne0 c = let p = c.requires in
+    open-refused _ _ _ _ _ _ (by-own _ _ _ p refl) c.refused.ensures (check-stop _ _ _ p c.if-checked-ne0.true) c.if-checked-ne0.true
 
 -- src/lib.rt:219:9
 pub returns-then-not-good_length : goal.returns-then-not-good_length
@@ -61,7 +62,8 @@ returns-then-not-f c = let e = finds-none _ _ _ (finds-as _ _ _
 
 -- src/lib.rt:232:9
 pub admits-requires : goal.admits-requires
-admits-requires c = let if1 = c.if-checked-ne0 in let p = c.requires in (checked-room _ _ (checked _ _ p if1.false), c.find-f.ensures.held (is-yes refl c.if-not-f.false))
+admits-requires c = let if1 = c.if-checked-ne0 in let p = c.requires in
+    (checked-room _ _ (checked _ _ p if1.false), c.find-f.ensures.held (is-yes refl c.if-not-f.false))
 
 -- src/lib.rt:233:9
 pub returns-then-not-admits : goal.returns-then-not-admits
@@ -82,11 +84,12 @@ returns-then-not-admits c = let e = finds-one _ _ _ (finds-as _ _ _
 
 -- src/lib.rt:237:17
 pub opened_at-requires : goal.opened_at-requires
-opened_at-requires c = let if4 = c.if-not-f in let find = c.find-f in let if3 = c.if-n-ne-NO_PLACE in let incoming = c.incoming-n in let if1 = c.if-checked-ne0 in let p = c.requires in (
-  checked-room _ _ (checked _ _ p if1.false),
-  find.ensures.held (is-yes refl if4.false),
-  (ap length (hands-name incoming.ensures if3.false) ∙ well-length _ (hands-good incoming.ensures if3.false)),
-)
+opened_at-requires c = let if4 = c.if-not-f in let find = c.find-f in let if3 = c.if-n-ne-NO_PLACE in let incoming = c.incoming-n in
+    let if1 = c.if-checked-ne0 in let p = c.requires in (
+      checked-room _ _ (checked _ _ p if1.false),
+      find.ensures.held (is-yes refl if4.false),
+      (ap length (hands-name incoming.ensures if3.false) ∙ well-length _ (hands-good incoming.ensures if3.false)),
+    )
 
 -- src/lib.rt:203:1
 pub returns : goal.returns

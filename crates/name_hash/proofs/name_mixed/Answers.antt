@@ -5,7 +5,8 @@ use mathlib.Core.Path.{sym, ◌∙◌}
 use Rattle.name_hash.proofs.name_mixed.Goals as goal
 
 pub returns-then-four_blanks : goal.returns-then-four_blanks
-returns-then-four_blanks c = let turned3 = c.turned-h-3 in let turned2 = c.turned-h-2 in let turned = c.turned-h in let shared-slice-known = c.shared_slice_known-1 in let a = c.args in let p = c.requires in let n = a.name.now in
+returns-then-four_blanks c = let turned3 = c.turned-h-3 in let turned2 = c.turned-h-2 in let turned = c.turned-h in
+    let shared-slice-known = c.shared_slice_known-1 in let a = c.args in let p = c.requires in let n = a.name.now in
     let k : (i : ℕ) → get_or n i 0 < 256 = λ i. (shared-slice-known.given i).fits in
     let w1 = both-start (get_or n 0 0) (get_or n 8 0) (k 0) (k 8) turned.ensures in
     let w2 = both-more (get_or n 1 0) (get_or n 9 0) w1 (k 1) (k 9) turned2.ensures in
@@ -14,7 +15,9 @@ returns-then-four_blanks c = let turned3 = c.turned-h-3 in let turned2 = c.turne
     short-last (get_or n 8 0) (get_or n 9 0) (get_or n 10 0) (k 8) (k 9) (k 10) w4 ∙ short-bytes n p (sym c.four_blanks.ensures ∙ c.if-four_blanks.true)
 
 pub returns : goal.returns
-returns c = let turned6 = c.turned-h-6 in let turned5 = c.turned-h-5 in let turned4 = c.turned-h-4 in let turned3 = c.turned-h-3 in let turned2 = c.turned-h-2 in let turned = c.turned-h in let shared-slice-known = c.shared_slice_known-1 in let a = c.args in let p = c.requires in let n = a.name.now in
+returns c = let turned6 = c.turned-h-6 in let turned5 = c.turned-h-5 in let turned4 = c.turned-h-4 in let turned3 = c.turned-h-3 in
+    let turned2 = c.turned-h-2 in let turned = c.turned-h in let shared-slice-known = c.shared_slice_known-1 in let a = c.args in let p = c.requires in
+    let n = a.name.now in
     let k : (i : ℕ) → get_or n i 0 < 256 = λ i. (shared-slice-known.given i).fits in
     let w1 = both-start (get_or n 0 0) (get_or n 8 0) (k 0) (k 8) turned.ensures in
     let w2 = both-more (get_or n 1 0) (get_or n 9 0) w1 (k 1) (k 9) turned2.ensures in

@@ -10,7 +10,9 @@ pub returns-then-not-letter : goal.returns-then-not-letter
 returns-then-not-letter c = place-first _ (is-false c.letter.ensures c.if-not-letter.true)
 
 pub returns-then-k-lt8 : goal.returns-then-k-lt8
-returns-then-k-lt8 c = let letter = c.letter in let if1 = c.if-name-ne11 in place-name _ if1.false (is-true letter.ensures c.if-not-letter.false) c.past_good-k.ensures c.if-k-lt8.true
+returns-then-k-lt8 c = let letter = c.letter in let if1 = c.if-name-ne11 in
+    place-name _ if1.false (is-true letter.ensures c.if-not-letter.false) c.past_good-k.ensures c.if-k-lt8.true
 
 pub returns : goal.returns
-returns c = let if2 = c.if-not-letter in let letter = c.letter in let if1 = c.if-name-ne11 in place-type _ if1.false (is-true letter.ensures if2.false) c.past_good-k.ensures c.if-k-lt8.false c.past_good.ensures
+returns c = let if2 = c.if-not-letter in let letter = c.letter in let if1 = c.if-name-ne11 in
+    place-type _ if1.false (is-true letter.ensures if2.false) c.past_good-k.ensures c.if-k-lt8.false c.past_good.ensures

@@ -15,14 +15,16 @@ returns-then-name-ne11 c = sym (all-no (ne_eqb _ _ c.if-name-ne11.true) _)
 
 pub returns-then-not-eight_plain : goal.returns-then-not-eight_plain
 unfolding well_formed
-returns-then-not-eight_plain c = let a = c.args in not-well a.name.now (λ w. eight-not a.name.now c.eight_plain.ensures (ap not c.if-not-eight_plain.true) (all-at _ w 2))
+returns-then-not-eight_plain c = let a = c.args in
+    not-well a.name.now (λ w. eight-not a.name.now c.eight_plain.ensures (ap not c.if-not-eight_plain.true) (all-at _ w 2))
 
 pub blanks_last-requires : goal.blanks_last-requires
 blanks_last-requires c = (c.if-name-ne11.false, is-true c.eight_plain.ensures c.if-not-eight_plain.false)
 
 pub returns-then-not-blanks_last : goal.returns-then-not-blanks_last
 unfolding well_formed
-returns-then-not-blanks_last c = let a = c.args in not-well a.name.now (λ w. true≢false (sym (ap (λ (b : Bool). b && padded (take 8 a.name.now)) (all-at _ w 1) ∙ all-at _ w 2) ∙ is-false
+returns-then-not-blanks_last c = let a = c.args in
+    not-well a.name.now (λ w. true≢false (sym (ap (λ (b : Bool). b && padded (take 8 a.name.now)) (all-at _ w 1) ∙ all-at _ w 2) ∙ is-false
     c.blanks_last.ensures c.if-not-blanks_last.true))
 
 pub returns : goal.returns

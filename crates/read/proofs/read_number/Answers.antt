@@ -14,11 +14,13 @@ pub returns-then-number-ne0 : goal.returns-then-number-ne0
 returns-then-number-ne0 c = reading-stop _ _ _ _ _ c.read_ranged-ranged.ensures c.reading_number-number.ensures c.if-number-ne0.true
 
 pub size_of-requires : goal.size_of-requires
-size_of-requires c = let a = c.args in let ranged = c.read_ranged-ranged.result in let p = passed a.g a.image.now a.h ranged (not_for_reading a.h ∷ []) refl c.reading_number-number.ensures c.if-number-ne0.false in
+size_of-requires c = let a = c.args in let ranged = c.read_ranged-ranged.result in
+    let p = passed a.g a.image.now a.h ranged (not_for_reading a.h ∷ []) refl c.reading_number-number.ensures c.if-number-ne0.false in
     ((walks a.g a.image.now a.h ranged p).0.room, p.slot)
 
 pub overflow_add-h : goal.overflow_add-h
-overflow_add-h c = let a = c.args in let the-read-ranged = c.read_ranged-ranged in let p = passed a.g a.image.now a.h the-read-ranged.result (not_for_reading a.h ∷ []) refl
+overflow_add-h c = let a = c.args in let the-read-ranged = c.read_ranged-ranged in
+    let p = passed a.g a.image.now a.h the-read-ranged.result (not_for_reading a.h ∷ []) refl
     c.reading_number-number.ensures c.if-number-ne0.false in
     let q = read-reach a.g a.image.now a.h a.n a.room (sym the-read-ranged.ensures ∙ p.ranged') in
     omega arith

@@ -7,7 +7,8 @@ pub returns-then-not-in_range : goal.returns-then-not-in_range
 returns-then-not-in_range c = sym (all-no (is-false c.in_range.ensures c.if-not-in_range.true) _)
 
 pub returns-then-highest-n : goal.returns-then-highest-n
-returns-then-highest-n c = rw (← c.highest.ensures.is) (sym (all_yes (is-true c.in_range.ensures c.if-not-in_range.false) _ ∙ all-no (lt-leb _ _ c.if-highest-n.true) _))
+returns-then-highest-n c =
+    rw (← c.highest.ensures.is) (sym (all_yes (is-true c.in_range.ensures c.if-not-in_range.false) _ ∙ all-no (lt-leb _ _ c.if-highest-n.true) _))
 
 pub returns : goal.returns
 returns c = rw (← c.highest.ensures.is)

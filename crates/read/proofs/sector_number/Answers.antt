@@ -19,9 +19,11 @@ word-requires c = let a = c.args in let p = passed a.g a.image.now a.h c.sector_
     ((walks a.g a.image.now a.h c.sector_ranged-ranged.result p).0.room, p.slot, omega arith)
 
 pub returns-then-word-k : goal.returns-then-word-k
-returns-then-word-k c = let reading-number = c.reading_number-number in let sector-ranged = c.sector_ranged-ranged in let a = c.args in sym (reading-then _ _ _ _ _ sector-ranged.ensures reading-number.ensures c.if-number-ne0.false
+returns-then-word-k c = let reading-number = c.reading_number-number in let sector-ranged = c.sector_ranged-ranged in let a = c.args in
+    sym (reading-then _ _ _ _ _ sector-ranged.ensures reading-number.ensures c.if-number-ne0.false
     ∙ first-hit (ap (λ (n : ℕ). leb n a.k) (sym c.word.ensures.is) ∙ le-leb _ _ c.if-word-k.true) _ _)
 
 pub returns : goal.returns
-returns c = let reading-number = c.reading_number-number in let sector-ranged = c.sector_ranged-ranged in let a = c.args in sym (reading-then _ _ _ _ _ sector-ranged.ensures reading-number.ensures c.if-number-ne0.false
+returns c = let reading-number = c.reading_number-number in let sector-ranged = c.sector_ranged-ranged in let a = c.args in
+    sym (reading-then _ _ _ _ _ sector-ranged.ensures reading-number.ensures c.if-number-ne0.false
     ∙ first-skip (ap (λ (n : ℕ). leb n a.k) (sym c.word.ensures.is) ∙ lt-leb _ _ c.if-word-k.false) _ _ ∙ first-none)

@@ -32,7 +32,8 @@ field-at-requires c = (
 )
 
 pub loop-more-preserved : goal.loop-more-preserved
-loop-more-preserved c = let if1 = c.if-e in let seek-entry = c.seek_entry-e in let loop-test = c.loop-more-test in let l = c.loop-more in let p = c.requires in walking-step _ _ p.0 l.invariant loop-test.true seek-entry.ensures if1.false c.field.ensures.is c.if-field-ne-HANDS_ON.false
+loop-more-preserved c = let if1 = c.if-e in let seek-entry = c.seek_entry-e in let loop-test = c.loop-more-test in let l = c.loop-more in
+    let p = c.requires in walking-step _ _ p.0 l.invariant loop-test.true seek-entry.ensures if1.false c.field.ensures.is c.if-field-ne-HANDS_ON.false
     c.field-at.ensures.is
 
 pub returns : goal.returns
