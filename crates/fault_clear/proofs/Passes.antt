@@ -12,7 +12,7 @@ use Rattle.meaning.specs.Lists.{some, has, distinct, same, all, any}
 use Rattle.meaning.specs.Layout.{granules, taken, is_slot, slots}
 use Rattle.meaning.specs.Entries.{in_use, in_use_primary, entry_granules, name_of}
 use Rattle.meaning.specs.Chain.{files}
-use Rattle.meaning.specs.Consistent.{runs_hold, gat_holds, names_differ}
+use Rattle.meaning.specs.Consistent.{gat_holds, names_differ}
 use Rattle.meaning.specs.Fault.{duplicate_fault, run_fault, gat_fault, shared_fault}
 use Rattle.meaning.specs.declared.Geometry.{Geometry}
 use Rattle.lists.specs.Members
@@ -30,7 +30,7 @@ use Rattle.check_map.proofs.Maps.{in-range, marked-out, marked-in, Open, allows-
 use Rattle.check_map.proofs.Standing.{open-if}
 use Rattle.check_walk.specs.Walk.{Entered, entry_fits}
 use Rattle.check_walk.specs.declared.Pairs.{Pairs}
-use Rattle.fault_clear.specs.Clear.{RunsClear, NamesClear, ClearThrough}
+use Rattle.fault_clear.specs.Clear.{NamesClear, ClearThrough}
 
 module _ (g : Geometry) (d : List ℕ) where
   -- Runs ------------------------------------------------------------------------------------------------------------------

@@ -1,6 +1,7 @@
 // How many slots, from the lowest on, one pass finds clear of a kind of fault (02 §2). The lowest slot at fault is told, so a test that looks at
 // all slots below is made at one slot only: where the pass has stopped.
 #![tactic(auto)]
+
 ghost use Rattle.std.specs.Prelude.{◌≡◌, true, ◌+◌};
 ghost use Rattle.layout.specs.Room.{Room};
 ghost use Rattle.check_map.specs.Owners.{standing};
