@@ -1,10 +1,9 @@
 -- The rows of a table, file by file.
 use mathlib.Core.Path.{◌≡◌, refl, sym, ap, ◌∙◌}
 use mathlib.Core.List.{List, [], ◌∷◌, ◌++◌, append-nil, append_assoc}
-use mathlib.Core.Bool.{Bool, true, false, cond}
+use mathlib.Core.Bool.{true, false}
 use Prim.Native.Nat.{ℕ, zero, suc, ◌+◌, ◌-◌, ◌*◌, ◌/◌, ◌%◌, ◌≤◌, ◌<◌}
 use native.Mathlib.Omega.{arith}
-use native.Mathlib.Nat.{zero-add}
 use lib.ListN.{length, take, drop, length-append}
 use lib.Seq.{sets, length-sets, take_all, take-append_seam, drop-nil}
 use lib.Dec.{ltb}
@@ -14,13 +13,13 @@ use Rattle.meaning.specs.Layout.{directory_sectors}
 use Rattle.meaning.specs.Entries.{name_of, size_of}
 use Rattle.meaning.specs.Chain.{owned}
 use Rattle.meaning.specs.Refusal.{unplaced}
-use Rattle.meaning.specs.Refusals.{check, refusal, accepted, first}
+use Rattle.meaning.specs.Refusals.{check, refusal, first}
 use Rattle.meaning.specs.Listing.{listed, tell_first}
 use Rattle.meaning.specs.declared.Geometry.{Geometry}
 use Rattle.meaning.specs.declared.Refusal.{Refusal}
 use Rattle.list_rows.specs.Rows.{low_first, row, told_from, rows_from, rows_refusals, list_from}
 use Rattle.list_rows.specs.Lengths.{rows-length}
-use Rattle.laws.specs.Carried.{carried-own, carried_other}
+use Rattle.laws.specs.Carried.{carried_other}
 use Rattle.lists.specs.Tests.{first-hit, first-skip, first-none}
 use Rattle.copy.proofs.OneByOne.{sets-append}
 use Rattle.passed.proofs.Checked.{check-stop, check-then, handed-on}
@@ -30,7 +29,8 @@ module _ (g : Geometry) (d : List ℕ) where
   -- a row in two parts: the name, then the numbers
   pub row_put : (t : List ℕ) (to s : ℕ) {t₁ t₂ name : List ℕ} {size granules : ℕ} → name ≡ name_of g d s → size ≡ size_of g d s → granules ≡ length
       (owned g d s)
-      → t₁ ≡ sets t to name → t₂ ≡ sets t₁ (to + 11) (low_first 1 s ++ (low_first 4 size ++ (low_first 2 granules ++ (0 ∷ 0 ∷ [])))) → t₂ ≡ sets t to (row g d s)
+      → t₁ ≡ sets t to name → t₂ ≡ sets t₁ (to + 11) (low_first 1 s ++ (low_first 4 size ++ (low_first 2 granules ++ (0 ∷ 0 ∷ [])))) → t₂ ≡ sets t to
+      (row g d s)
   unfolding row tell_first name_of
   row_put t to s {t₁} {t₂} {name} {size} {granules} n z o e f =
       f ∙ ap (λ (r : List ℕ). sets r (to + 11) (low_first 1 s ++ (low_first 4 size ++ (low_first 2 granules ++ (0 ∷ 0 ∷ []))))) (e ∙ ap (sets t to) n)
