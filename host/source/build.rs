@@ -72,11 +72,6 @@ fn generate(project: &Path, to: &Path) -> Result<Vec<PathBuf>, String> {
             writeln!(proved, "    use super::{{{}}};", found.uses.join(", ")).unwrap();
         }
         writeln!(proved, "    include!(concat!(env!(\"OUT_DIR\"), \"/{name}.rs\"));").unwrap();
-        for kind in &erased.types {
-            writeln!(proved, "    impl Copy for {kind} {{}}").unwrap();
-            writeln!(proved, "    impl Clone for {kind} {{\n        fn clone(&self) -> Self {{\n            *self\n        }}\n    }}")
-                .unwrap();
-        }
         writeln!(proved, "}}").unwrap();
 
         for export in &erased.exports {

@@ -1,9 +1,9 @@
 //! Leaves the contracts out of a file of Rattle. What is left is Rust, line by line as it stands in the file.
 //!
-//! Four kinds of lines are left out, whole lines only: `ghost use` items, `requires` clauses, `ensures` clauses, and
-//! `#[no_mangle]`, which goes to the shim of its function. An empty line takes the place of each, so that a line has its
-//! number in both files. Nothing is changed and nothing is added. Whatever is not known here is an error that names file
-//! and line.
+//! Five kinds of lines are left out, whole lines only: `ghost use` items; `requires` clauses; `ensures` clauses; what is
+//! said to the prover, the attributes `tactic` and `cycle` and the statement `prove!`; and `#[unsafe(no_mangle)]`, which
+//! goes to the shim of its function. An empty line takes the place of each, so that a line has its number in both files.
+//! Nothing is changed and nothing is added. Whatever is not known here is an error that names file and line.
 
 use std::fmt::Write;
 
@@ -13,9 +13,7 @@ pub struct Erased {
     pub left: String,
     /// The lines left out, by their number from 0, without the line feed.
     pub left_out: Vec<(usize, String)>,
-    /// The structs and enums that the file declares, in their order.
-    pub types: Vec<String>,
-    /// The functions marked `#[no_mangle]`.
+    /// The functions marked `#[unsafe(no_mangle)]`.
     pub exports: Vec<Export>,
 }
 
@@ -35,7 +33,6 @@ pub fn erase(path: &str, text: &str) -> Result<Erased, String> {
         text,
         at: 0,
         lines: text.split('\n').map(|_| true).collect(),
-        types: Vec::new(),
         exports: Vec::new(),
     };
     file.items(None)?;
@@ -46,7 +43,7 @@ pub fn erase(path: &str, text: &str) -> Result<Erased, String> {
             left_out.push((number, line.to_string()));
         }
     }
-    Ok(Erased { left: left.join("\n"), left_out, types: file.types, exports: file.exports })
+    Ok(Erased { left: left.join("\n"), left_out, exports: file.exports })
 }
 
 /// A token of what is left: where it starts, and its text. The text of a string is the string.
@@ -62,8 +59,16 @@ struct File<'a> {
     at: usize,
     /// Whether a line stays.
     lines: Vec<bool>,
-    types: Vec<String>,
     exports: Vec<Export>,
+}
+
+/// Which attributes stand before an item.
+#[derive(Default)]
+struct Marked {
+    exported: bool,
+    /// For the prover, of a function.
+    told: bool,
+    derived: bool,
 }
 
 /// Words of Rattle or of Rust that no code here is known to need: what they mean was not looked at.
@@ -209,33 +214,91 @@ impl<'a> File<'a> {
             if inner.is_some() && token.text == "}" {
                 return Ok(());
             }
-            let exported = token.text == "#";
-            if exported {
-                self.expect_text("[")?;
-                self.expect_text("no_mangle")?;
-                let end = self.expect_text("]")?;
-                self.leave_out(token.from, end.from + 1)?;
+            if token.text == "#" && inner.is_none() && self.text[self.at..].starts_with('!') {
+                self.whole_file(token)?;
+                continue;
             }
-            let start = if exported { self.expect()? } else { token };
+            let (mut marked, mut start) = (Marked::default(), token);
+            while start.text == "#" {
+                self.attribute(start, &mut marked)?;
+                start = self.expect()?;
+            }
+            let plain = !marked.exported && !marked.told && !marked.derived;
             let word = if start.text == "pub" { self.expect()? } else { start };
             match word.text {
                 "ghost" if word.from == token.from && inner.is_none() => self.ghost_use(word)?,
-                "use" | "const" | "type" if !exported => drop(self.through(word, ";")?),
-                "struct" | "enum" if !exported && inner.is_none() => self.declared()?,
+                "use" | "const" | "type" if plain => drop(self.through(word, ";")?),
+                "struct" | "enum" if !marked.exported && !marked.told && inner.is_none() => self.declared()?,
                 "impl" if word.from == token.from && inner.is_none() => {
                     self.expect_name()?;
                     let brace = self.expect_text("{")?;
                     self.items(Some(brace.from))?;
                 }
-                "extern" if exported && start.text == "pub" && inner.is_none() => {
+                "extern" if marked.exported && !marked.derived && start.text == "pub" && inner.is_none() => {
                     self.expect_text("\"C\"")?;
                     self.expect_text("fn")?;
                     self.function(true)?;
                 }
-                "fn" if !exported => self.function(false)?,
+                "fn" if !marked.exported && !marked.derived => self.function(false)?,
                 other => return self.unknown(word.from, &format!("an item that starts with `{other}` is not known")),
             }
         }
+    }
+
+    /// `#![tactic(..)]`, from its `#` on: what the prover tries in this file.
+    fn whole_file(&mut self, from: Token) -> Result<(), String> {
+        self.expect_text("!")?;
+        self.expect_text("[")?;
+        self.expect_text("tactic")?;
+        self.bracketed(from)
+    }
+
+    /// `#[..]`, from its `#` on. A derive stays.
+    fn attribute(&mut self, from: Token, marked: &mut Marked) -> Result<(), String> {
+        let open = self.expect_text("[")?;
+        let word = self.expect()?;
+        match word.text {
+            "unsafe" => {
+                for text in ["(", "no_mangle", ")"] {
+                    self.expect_text(text)?;
+                }
+                let end = self.expect_text("]")?;
+                self.leave_out(from.from, end.from + 1)?;
+                marked.exported = true;
+            }
+            "tactic" | "cycle" => {
+                self.bracketed(from)?;
+                marked.told = true;
+            }
+            "derive" => {
+                for token in self.through(open, "]")? {
+                    if !["(", ",", ")", "Clone", "Copy"].contains(&token.text) {
+                        return self.unknown(token.from, &format!("a derive of `{}` is not known", token.text));
+                    }
+                }
+                marked.derived = true;
+            }
+            other => return self.unknown(word.from, &format!("the attribute `{other}` is not known")),
+        }
+        Ok(())
+    }
+
+    /// Leaves out an attribute, behind its word: what stands in it, in brackets, is not Rust.
+    fn bracketed(&mut self, from: Token) -> Result<(), String> {
+        let mut depth = 1;
+        for (at, character) in self.text[self.at..].char_indices() {
+            match character {
+                '[' | '(' | '{' => depth += 1,
+                ']' | ')' | '}' => depth -= 1,
+                '"' => return self.unknown(self.at + at, "a string in an attribute is not known"),
+                _ => {}
+            }
+            if depth == 0 {
+                self.at += at + 1;
+                return self.leave_out(from.from, self.at);
+            }
+        }
+        self.unknown(from.from, "this attribute is not closed")
     }
 
     /// `ghost use ...;`, whose tree is not Rust.
@@ -249,9 +312,9 @@ impl<'a> File<'a> {
         self.leave_out(ghost.from, self.at)
     }
 
-    /// `struct` or `enum`: fields or variants of plain data. They are `Copy` in Rattle.
+    /// `struct` or `enum`: fields or variants of plain data.
     fn declared(&mut self) -> Result<(), String> {
-        let name = self.expect_name()?;
+        self.expect_name()?;
         let open = self.expect()?;
         match open.text {
             "{" => drop(self.through(open, "}")?),
@@ -261,7 +324,6 @@ impl<'a> File<'a> {
             }
             other => return self.unknown(open.from, &format!("`{other}` behind a type's name is not known")),
         }
-        self.types.push(name.text.to_string());
         Ok(())
     }
 
@@ -281,6 +343,10 @@ impl<'a> File<'a> {
                 "(" => open.push(")"),
                 "[" => open.push("]"),
                 "{" => open.push("}"),
+                "prove" if self.text[self.at..].starts_with('!') => {
+                    self.proved(token)?;
+                    continue;
+                }
                 ")" | "]" | "}" if open.pop() != Some(token.text) => {
                     return self.unknown(token.from, &format!("`{}` closes nothing", token.text));
                 }
@@ -291,6 +357,15 @@ impl<'a> File<'a> {
             }
             tokens.push(token);
         }
+    }
+
+    /// `prove!(..);`, a statement that is proved and does nothing.
+    fn proved(&mut self, from: Token) -> Result<(), String> {
+        self.expect_text("!")?;
+        let open = self.expect_text("(")?;
+        self.through(open, ")")?;
+        let end = self.expect_text(";")?;
+        self.leave_out(from.from, end.from + 1)
     }
 
     /// A function from its name on: parameters, answer, clauses, body.
@@ -442,8 +517,8 @@ pub fn stands_on(path: &str, text: &str, top: &str) -> Result<Vec<Listed>, Strin
         }
         let place = format!("{path}:{}", number + 1);
         let (name, uses) = match line.split_once(':') {
-            Some((name, uses)) => (name.trim(), uses.split_whitespace().map(str::to_string).collect()),
-            None => return Err(format!("{place}: a line is `NAME: CRATE CRATE ..`")),
+            Some((name, uses)) => (name.trim().trim_end_matches(" staticlib"), uses.split_whitespace().map(str::to_string).collect()),
+            None => return Err(format!("{place}: a line is `NAME: CRATE CRATE ..` or `NAME staticlib: CRATE CRATE ..`")),
         };
         if name.is_empty() || !name.chars().all(is_word) || listed.iter().any(|old: &Listed| old.name == name) {
             return Err(format!("{place}: the name {name:?} is none, or stands twice"));

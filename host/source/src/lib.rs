@@ -13,7 +13,7 @@ compile_error!(
      `no-proof-covers-32-bits` of genie-source compiles it all the same"
 );
 
-/// A module for each crate: the lines left, and that its types may be copied, as all plain data may in Rattle.
+/// A module for each crate: the lines left.
 #[cfg(any(target_pointer_width = "64", feature = "no-proof-covers-32-bits"))]
 // What only programs call is dead here, and a parameter may be there for a contract alone.
 #[allow(clippy::all, dead_code, improper_ctypes_definitions, non_snake_case, unused_imports, unused_variables)]

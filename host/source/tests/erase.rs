@@ -74,8 +74,9 @@ fn together_again() {
     assert!(kept > 4_000 && gone > 800, "{kept} lines left, {gone} left out");
 }
 
-/// What is left out is contracts, and the mark that goes to a shim. Looked at by lines alone: a clause is indented, starts
-/// with its word, and goes on as long as its braces are open; nothing that starts so is left.
+/// What is left out is contracts, what is said to the prover, and the mark that goes to a shim. Looked at by lines alone: a
+/// clause is indented, starts with its word, and goes on as long as its braces are open; nothing that starts so is left. An
+/// attribute for the prover is a line that starts with its word and ends with its bracket. Of attributes only derives stay.
 #[test]
 fn only_contracts_are_left_out() {
     let starts = |line: &str| ["    requires ", "    ensures "].iter().any(|word| line.starts_with(word));
@@ -91,13 +92,15 @@ fn only_contracts_are_left_out() {
                 open = depth(&line);
             } else {
                 let ghost = line.starts_with("ghost use ") && line.ends_with(';');
-                assert!(ghost || line == "#[no_mangle]", "{place}");
+                let told = ["#![tactic(", "#[tactic(", "#[cycle("].iter().any(|word| line.trim_start().starts_with(word));
+                assert!(ghost || told && line.ends_with(")]") || line == "#[unsafe(no_mangle)]", "{place}");
             }
             last = number;
         }
         assert_eq!(open, 0, "{name}: the last clause is not whole");
         for line in read(&Path::new(OUT).join(format!("{name}.rs"))).lines() {
-            assert!(!starts(line) && !line.starts_with("ghost ") && !line.starts_with("#["), "{name}: {line}");
+            assert!(!starts(line) && !line.starts_with("ghost "), "{name}: {line}");
+            assert!(!line.trim_start().starts_with('#') || line == "#[derive(Clone, Copy)]", "{name}: {line}");
         }
     }
 }
@@ -115,9 +118,7 @@ fn what_is_added() {
         }
         let name = modules.last().unwrap();
         let include = format!("include!(concat!(env!(\"OUT_DIR\"), \"/{name}.rs\"));");
-        let copied = line.starts_with("impl Copy for ") || line.starts_with("impl Clone for ");
-        let body = ["fn clone(&self) -> Self {", "*self", "}"].contains(&line);
-        assert!(line == include || copied || body || line.starts_with("use super::{"), "{name}: {line}");
+        assert!(line == include || line == "}" || line.starts_with("use super::{"), "{name}: {line}");
     }
     assert_eq!(text.matches("include!").count(), modules.len());
     modules.sort();
@@ -154,8 +155,35 @@ fn the_exports_are_those_of_the_header() {
     };
     let shims = kinds(shims());
     assert_eq!(shims, kinds(declared::of_header(&read(&project().join("host/include/genie.h")))));
-    let marked: usize = crates().iter().map(|name| read(&source(name)).matches("#[no_mangle]").count()).sum();
+    let marked: usize = crates().iter().map(|name| read(&source(name)).matches("#[unsafe(no_mangle)]").count()).sum();
     assert_eq!(shims.len(), marked);
+}
+
+/// The exports of the archive that Rattle makes, which `genie_c` has: the same functions under the same contracts, each of
+/// them a call of that name in `genie`.
+#[test]
+fn the_exports_of_the_archive_are_those_of_the_source() {
+    let exports = |name: &str| -> Vec<(String, String)> {
+        let text = read(&source(name));
+        let functions = text.split("#[unsafe(no_mangle)]\npub extern \"C\" fn ").skip(1);
+        functions
+            .map(|function| {
+                let (head, body) = function.split_once("\n{\n").expect("a body");
+                (head.to_string(), body[..body.find("\n}\n").expect("its end")].to_string())
+            })
+            .collect()
+    };
+    let (ours, theirs) = (exports("genie"), exports("genie_c"));
+    assert!(ours.len() > 20 && ours.len() == theirs.len());
+    for ((head, _), (other, body)) in ours.iter().zip(&theirs) {
+        assert_eq!(head, other);
+        let (name, rest) = head.split_once('(').unwrap();
+        let parameters = rest[..rest.find(')').unwrap()].split(',').filter_map(|text| text.split_once(':'));
+        let names: Vec<&str> = parameters.map(|(name, _)| name.trim()).collect();
+        let words: String = body.split_whitespace().collect::<Vec<_>>().join(" ");
+        let call = words.replace("( ", "(").replace(", )", ")");
+        assert_eq!(call, format!("genie::{name}({})", names.join(", ")));
+    }
 }
 
 /// What is done with a text: the lines left out.
@@ -170,8 +198,11 @@ fn forms_that_are_known() {
     assert_eq!(out_of(text), Ok(vec![3, 7, 8, 9]));
     let (left, first) = (erase::erase("x.rt", text).unwrap().left, "// é\nuse a::B;\n\n\npub const");
     assert!(left.starts_with(first) && left.ends_with("\n    x\n}\n"), "{left}");
-    let types = "pub struct S {\n    a: u8,\n}\nenum E {\n    A,\n    B(u8),\n}\nstruct T(u8, [u8; 3]);\n";
-    assert_eq!(erase::erase("x.rt", types).unwrap().types, ["S", "E", "T"]);
+    let types = "#[derive(Clone, Copy)]\npub struct S {\n    a: u8,\n}\nenum E {\n    A,\n    B(u8),\n}\nstruct T(u8, [u8; 3]);\n";
+    assert_eq!(out_of(types), Ok(vec![]));
+    let told = "#![tactic(auto)]\nuse a::{\n    B, C,\n};\n#[tactic(auto, using(crate::proofs::M::x-y), unfolding(z))]\nfn f() {\n    \
+                prove!(x < 2);\n}\n#[cycle(a_b)]\nfn g() {\n}\n";
+    assert_eq!(out_of(told), Ok(vec![1, 5, 7, 9]));
     let methods = "impl S {\n    fn f(self) -> [u8; 2]\n        ensures { ⊤ }\n    {\n        [1, 2]\n    }\n}\n";
     assert_eq!(out_of(methods), Ok(vec![3]));
     assert_eq!(out_of(""), Ok(vec![]));
@@ -198,8 +229,16 @@ fn forms_that_are_not_known() {
         ("ghost use x.{y\n};\n".into(), 1),
         ("use a::B; ghost use x.{y};\n".into(), 1),
         ("#[inline]\nfn f() {\n}\n".into(), 1),
-        ("#[no_mangle]\nfn f() {\n}\n".into(), 2),
-        ("#[no_mangle] pub extern \"C\" fn f() {\n}\n".into(), 1),
+        ("#[no_mangle]\npub extern \"C\" fn f() {\n}\n".into(), 1),
+        ("#[unsafe(no_mangle)]\nfn f() {\n}\n".into(), 2),
+        ("#[unsafe(x)]\npub extern \"C\" fn f() {\n}\n".into(), 1),
+        ("#[derive(Debug)]\nstruct S {\n    x: u8,\n}\n".into(), 1),
+        ("#[derive(Clone)]\nfn f() {\n}\n".into(), 2),
+        ("#[tactic(auto)]\nstruct S {\n    x: u8,\n}\n".into(), 2),
+        ("#[tactic(auto)\nfn f() {\n}\n".into(), 1),
+        ("#![allow(x)]\n".into(), 1),
+        ("const _: () = prove!(x);\n".into(), 1),
+        ("#[unsafe(no_mangle)] pub extern \"C\" fn f() {\n}\n".into(), 1),
         ("\n\npub extern \"C\" fn f() {\n}\n".into(), 3),
         ("extern \"C\" {\n}\n".into(), 1),
         ("mod other;\n".into(), 1),
@@ -228,7 +267,7 @@ fn forms_that_are_not_known() {
 #[test]
 fn exports_that_are_not_known() {
     let export = |signature: &str| {
-        let text = format!("\n#[no_mangle]\npub extern \"C\" fn f({signature}\n{{\n}}\n");
+        let text = format!("\n#[unsafe(no_mangle)]\npub extern \"C\" fn f({signature}\n{{\n}}\n");
         let erased = erase::erase("x.rt", &text).unwrap();
         erase::shim("genie", &erased.exports[0])
     };
@@ -254,12 +293,13 @@ fn crates_that_are_not_known() {
         let found = erase::stands_on("crates.txt", text, "top")?;
         Ok::<_, String>(found.iter().map(|line| line.name.clone()).collect::<Vec<_>>().join(" "))
     };
-    assert_eq!(order("# x\na:\nother: b\ntop: b a # y\n\nb: a\n"), Ok("a b top".into()));
+    assert_eq!(order("# x\na:\nother staticlib: b\ntop: b a # y\n\nb: a\n"), Ok("a b top".into()));
     for (bad, place) in [
         ("a:\n", "crates.txt: "),
         ("top: io\n", "crates.txt:1: "),
         ("\ntop: a\na: top\n", "crates.txt:3: "),
         ("top a\n", "crates.txt:1: "),
+        ("top program: a\n", "crates.txt:1: "),
         ("top:\ntop:\n", "crates.txt:2: "),
     ] {
         let told = order(bad).expect_err(bad);
