@@ -1,5 +1,6 @@
 // A handle of two drives as the 20 bytes that a host holds (02 §9): the 19 of a handle, then the drive.
 #![tactic(auto)]
+
 ghost use Rattle.std.specs.Prelude.{◌≡◌};
 ghost use Rattle.drives_codec.specs.Codec.{handle_of, stored, length_for};
 
