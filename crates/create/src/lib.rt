@@ -1,5 +1,6 @@
 // Create.
 #![tactic(auto)]
+
 ghost use Rattle.std.specs.Prelude.{◌≡◌, false, true, ◌+◌, ◌*◌, ◌<◌, ◌≤◌, length};
 ghost use Rattle.meaning.specs.Layout.{entry_at};
 ghost use Rattle.meaning.specs.Refusal.{carried};

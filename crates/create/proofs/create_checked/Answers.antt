@@ -1,0 +1,141 @@
+use native.Mathlib.Omega.{arith}
+use mathlib.Core.Path.{◌∙◌, ap, refl}
+use mathlib.Core.Bool.{false}
+use mathlib.Core.List.{List}
+use lib.ListN.{length}
+use Rattle.name_spelling.proofs.Comes.{hands-bad, hands-good, hands-name}
+use Rattle.meaning.specs.Open.{opened_at}
+use Rattle.meaning.specs.Create.{with_entry}
+use Rattle.layout.proofs.HasRoom.{entry-fits}
+use Rattle.lists.specs.Tests.{is-false, is-true, not-no, not_yes}
+use Rattle.layout.proofs.OneStep.{well-length}
+use Rattle.passed.proofs.Checked.{checked, checked-room}
+use Rattle.look_up.proofs.Named.{by-own, by_place, by_number}
+use Rattle.look_up.proofs.Search.{finds-as, finds-none, finds-one}
+use Rattle.create.proofs.Creating.{by-check, by_code, by_name, by-range, by-slot, is-new, is-old, made, opened, slot-none, slot-some, told}
+use Prim.Native.Nat.{ℕ}
+use Rattle.create.proofs.create_checked.Goals as goal
+
+pub returns-then-checked-ne0 : goal.returns-then-checked-ne0
+returns-then-checked-ne0 c = let p = c.requires in
+    told _ _ _ _ _ (by-own _ _ _ p refl) c.refused.ensures (by-check _ _ _ _ _ p c.if-checked-ne0.true) c.if-checked-ne0.true
+
+pub returns-then-not-in_range : goal.returns-then-not-in_range
+returns-then-not-in_range c = told _ _ _ _ _ (by_number _ _ _ c.requires 12 (λ z. omega arith) refl)
+    c.refused-then-not-in_range.ensures (by-range _ _ _ _ _ c.requires c.if-checked-ne0.false
+    (is-false c.in_range.ensures c.if-not-in_range.true)) (λ z. omega arith)
+
+pub returns-then-n-ne-NO_PLACE : goal.returns-then-n-ne-NO_PLACE
+returns-then-n-ne-NO_PLACE c = told _ _ _ _ _
+    (by_place _ _ _ c.requires
+    c.if-checked-ne0.false c.placed.ensures c.incoming-n.ensures.place)
+    (λ i. record { refusal = c.placed.result; old = false; handle = c.no_handle.ensures i })
+    (by_name _ _ _ _ _ c.requires
+    c.if-checked-ne0.false
+    (is-true c.in_range.ensures c.if-not-in_range.false)
+    (hands-bad c.incoming-n.ensures c.if-n-ne-NO_PLACE.true)) (λ z. omega arith)
+
+pub find-found-requires : goal.find-found-requires
+find-found-requires c = let if3 = c.if-n-ne-NO_PLACE in let incoming = c.incoming-n in let if1 = c.if-checked-ne0 in let p = c.requires in (
+  checked-room _ _ (checked _ _ p if1.false),
+  (ap length (hands-name incoming.ensures if3.false) ∙ well-length _ (hands-good incoming.ensures if3.false)),
+)
+
+pub admits-requires : goal.admits-requires
+admits-requires c = let if1 = c.if-checked-ne0 in let p = c.requires in (checked-room _ _ (checked _ _ p if1.false), c.find-found.ensures.held c.if-found.true)
+
+pub returns-then-not-admits : goal.returns-then-not-admits
+returns-then-not-admits c = told _ _ _ _ _
+    (by_number _ _ _ c.requires 5 (λ z. omega arith) refl) c.refused-then-not-admits.ensures
+    (by_code _ _ _ _ _ c.requires c.if-checked-ne0.false
+    (is-true c.in_range.ensures
+    c.if-not-in_range.false)
+    (hands-good c.incoming-n.ensures
+    c.if-n-ne-NO_PLACE.false)
+    (finds-one _ _ _ (finds-as _ _ _
+    (hands-name c.incoming-n.ensures
+    c.if-n-ne-NO_PLACE.false)
+    c.find-found.ensures) (not_yes c.if-found.true))
+    (is-false c.admits.ensures c.if-not-admits.true)) (λ z. omega arith)
+
+pub opened_at-requires : goal.opened_at-requires
+opened_at-requires c = let if4 = c.if-found in let find = c.find-found in let if3 = c.if-n-ne-NO_PLACE in let incoming = c.incoming-n in
+    let if1 = c.if-checked-ne0 in let p = c.requires in (
+      checked-room _ _ (checked _ _ p if1.false),
+      find.ensures.held if4.true,
+      (ap length (hands-name incoming.ensures if3.false) ∙ well-length _ (hands-good incoming.ensures if3.false)),
+    )
+
+pub returns-then-found : goal.returns-then-found
+returns-then-found c = let e = finds-one _ _ _
+    (finds-as _ _ _ (hands-name c.incoming-n.ensures c.if-n-ne-NO_PLACE.false) c.find-found.ensures)
+    (not_yes c.if-found.true) in
+    opened _ _ _ _ _ (by_number _ _ _
+    c.requires 0 (λ z. omega arith) c.carried.ensures)
+    (is-old _ _ _ _ _ c.requires
+    c.if-checked-ne0.false (is-true c.in_range.ensures c.if-not-in_range.false)
+    (hands-good c.incoming-n.ensures c.if-n-ne-NO_PLACE.false) e (is-true c.admits.ensures
+    c.if-not-admits.false)) e
+    (c.opened_at.ensures ∙ ap (λ (m : List ℕ). opened_at
+    c.args.g
+    c.args.image.now
+    c.find-found.result.slot m
+    c.args.f.len
+    c.args.checking
+    c.args.f.main)
+    (hands-name c.incoming-n.ensures c.if-n-ne-NO_PLACE.false))
+
+pub first_free_slot-x-requires : goal.first_free_slot-x-requires
+first_free_slot-x-requires c = let if1 = c.if-checked-ne0 in let p = c.requires in checked-room _ _ (checked _ _ p if1.false)
+
+pub returns-then-x-eq256 : goal.returns-then-x-eq256
+returns-then-x-eq256 c = told _ _ _ _ _
+    (by_number _ _ _ c.requires 8 (λ z. omega arith) refl) c.refused-then-x-eq256.ensures
+    (by-slot _ _ _ _ _ c.requires c.if-checked-ne0.false
+    (is-true c.in_range.ensures
+    c.if-not-in_range.false)
+    (hands-good c.incoming-n.ensures
+    c.if-n-ne-NO_PLACE.false)
+    (finds-none _ _ _ (finds-as _ _ _
+    (hands-name c.incoming-n.ensures
+    c.if-n-ne-NO_PLACE.false)
+    c.find-found.ensures) (not-no c.if-found.false))
+    (slot-none _ _ c.first_free_slot-x.ensures c.if-x-eq256.true)) (λ z. omega arith)
+
+pub put_entry-requires : goal.put_entry-requires
+put_entry-requires c = let if6 = c.if-x-eq256 in let first-free-slot = c.first_free_slot-x in let if3 = c.if-n-ne-NO_PLACE in
+    let incoming = c.incoming-n in let if2 = c.if-not-in_range in let in-range = c.in_range in let a = c.args in
+    let w = slot-some a.g a.image.now first-free-slot.ensures
+    if6.false in (
+      entry-fits a.g a.image.now first-free-slot.result
+          (checked-room a.g a.image.now (checked a.g a.image.now
+          c.requires c.if-checked-ne0.false)) w.2,
+      w.2.low,
+      (ap length (hands-name incoming.ensures if3.false) ∙ well-length _
+          (hands-good incoming.ensures
+          if3.false)),
+      is-true
+          in-range.ensures
+          if2.false,
+    )
+
+pub returns : goal.returns
+returns c = let a = c.args in let w = slot-some a.g a.image.now c.first_free_slot-x.ensures
+    c.if-x-eq256.false in
+    let e = finds-none _ _ _ (finds-as _ _ _
+    (hands-name c.incoming-n.ensures c.if-n-ne-NO_PLACE.false)
+    c.find-found.ensures)
+    (not-no c.if-found.false) in
+    made _ _ _ _ _ (by_number _ _ _
+    c.requires 0 (λ z. omega arith) c.carried-2.ensures)
+    (is-new _ _ _ _ _ c.requires
+    c.if-checked-ne0.false
+    (is-true c.in_range.ensures
+    c.if-not-in_range.false) (hands-good c.incoming-n.ensures
+    c.if-n-ne-NO_PLACE.false) e w.1) e w.0
+    (hands-name c.incoming-n.ensures c.if-n-ne-NO_PLACE.false) (c.put_entry.ensures ∙ ap
+    (λ (m : List ℕ). with_entry c.args.g
+    c.args.image.now
+    c.first_free_slot-x.result m
+    c.args.f)
+    (hands-name c.incoming-n.ensures c.if-n-ne-NO_PLACE.false))
