@@ -6,8 +6,8 @@ use Prim.Native.Nat.{ℕ, suc, ◌+◌, ◌-◌, ◌≤◌, ◌<◌}
 use native.Mathlib.Omega.{arith}
 use lib.Dec.{eqb, ltb}
 use lib.ListN.{length, length-append}
-use borrow.Author.Tests.{eq-eqb, ne_eqb, lt-ltb, le-ltb, not-false}
-use Rattle.meaning.specs.Lists.{count, every, some, each, has, keep, all, any, first_or}
+use borrow.Author.Tests.{lt-ltb, le-ltb, not-false}
+use Rattle.meaning.specs.Lists.{count, every, some, each, keep, all, any}
 use Rattle.meaning.specs.Layout.{taken}
 use Rattle.meaning.specs.Entries.{in_use, runs, link, run_start, run_length, run_granules, entry_granules}
 use Rattle.meaning.specs.Consistent.{follows_by, runs_hold, gat_holds}
@@ -22,7 +22,7 @@ use Rattle.laws.specs.Walk
 pub use Rattle.lists.specs.Tests.{any-one}
 pub use Rattle.lists.specs.Ranges.{count-more, count_none}
 use Rattle.fault_kinds.specs.Reach.{reach}
-use Rattle.fault_kinds.specs.Tests.{starts_to, first_file, leads, tally, good_from, run_in}
+use Rattle.fault_kinds.specs.Tests.{leads, tally, good_from, run_in}
 use Rattle.fault_kinds.specs.Overlap.{overlaps, runs_meet}
 
 -- Places in a row -------------------------------------------------------------------------------------------------------------

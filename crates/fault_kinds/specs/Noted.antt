@@ -1,5 +1,5 @@
 -- What the walks come to, written down for each slot (02 §2): the first file whose walk meets it, and what leads to it.
-use Rattle.std.specs.Prelude.{◌≡◌, Bool, false, cond, List, [], ◌∷◌, ℕ, ◌-◌, ◌≤◌, ◌<◌, eqb, length, get_or, set}
+use Rattle.std.specs.Prelude.{◌≡◌, false, cond, List, [], ◌∷◌, ℕ, ◌-◌, ◌≤◌, ◌<◌, eqb, length, get_or, set}
 use Rattle.meaning.specs.Lists.{count, keep, first_or}
 use Rattle.meaning.specs.Fault.{good_extension}
 use Rattle.meaning.specs.declared.Geometry.{Geometry}

@@ -1,5 +1,6 @@
 // The kinds of fault at one slot (02), but for those of its HIT byte and its name. What the walks come to is written down once for all slots.
 #![tactic(auto)]
+
 ghost use Rattle.std.specs.Prelude.{◌≡◌, true, false, not, [], ◌∷◌, ◌+◌, ◌-◌, ◌*◌, ◌<◌, ◌≤◌, length, get_or, set};
 ghost use Rattle.meaning.specs.Lists.{count, every, some, each, has, any};
 ghost use Rattle.meaning.specs.Layout.{granules, taken, slots};
