@@ -1,5 +1,6 @@
 // A write of any number of bytes, sequential and random, of which write record and write bytes are two.
 #![tactic(auto)]
+
 ghost use Rattle.std.specs.Prelude.{◌≡◌, cond, [], ◌∷◌, ◌+◌, ◌-◌, ◌*◌, ◌<◌, ◌≤◌, length, take, replicate, leb};
 ghost use Rattle.meaning.specs.Lists.{all};
 ghost use Rattle.meaning.specs.Layout.{highest, entry_at, granule_bytes, granules_for};

@@ -1,0 +1,72 @@
+use Rattle.write.proofs.Parts.{storing-start, zeros-step, stored}
+use Rattle.read.proofs.ReadParts.{place-fits, owned-part}
+use Rattle.seek.proofs.Frame.{same-sound, same-used, same_place}
+use lib.ListN.{replicate}
+use Prim.Native.Nat.{ℕ, ◌-◌, ◌+◌, ◌≤◌}
+use mathlib.Core.Path.{◌≡◌, ◌∙◌, ap}
+use native.Mathlib.Omega.{arith}
+use Rattle.write.proofs.clear_bytes.Goals as goal
+
+-- src/lib.rt:42:5
+pub loop-done-init : goal.loop-done-init
+loop-done-init c = (omega arith, storing-start _ _ _ _)
+
+-- src/lib.rt:43:34
+pub overflow_add-i : goal.overflow_add-i
+overflow_add-i c = let h = c.requires.2.high in omega (arith, c.loop-done.invariant.0)
+
+-- src/lib.rt:44:42
+pub overflow_add-i-in-loop-done : goal.overflow_add-i-in-loop-done
+overflow_add-i-in-loop-done c = let h = c.requires.2.high in omega (arith, c.loop-done.invariant.0)
+
+-- src/lib.rt:44:13
+pub place-p-requires : goal.place-p-requires
+place-p-requires c = let p = c.requires in let loop = c.loop-done in let h = p.2.high in
+    let l = loop.invariant.0 in (
+      same-sound _ _ _ p.0.sound loop.invariant.1.same,
+      same-used _ _ _ p.0.sound.room loop.invariant.1.same p.0.used,
+      omega (
+        arith,
+        c.loop-done-test.true,
+      ),
+    )
+
+-- src/lib.rt:45:9
+pub clear_part-requires : goal.clear_part-requires
+clear_part-requires c = let the-part-of = c.part_of-m in let args = c.args in let loop = c.loop-done in let p = c.requires in let q = the-part-of.ensures in
+    let a = args in
+    let l = place-fits a.g a.image.now a.s (a.i + loop.done) the-part-of.result p.0 (owned-part _ _ loop.done the-part-of.result
+    p.2 q.1 (omega (arith, q.2, loop.invariant.0))) q.0 in
+    let e = c.place-p.ensures ∙ same_place a.g a.image.now loop.image p.0.sound loop.invariant.1.same a.s (a.i + loop.done)
+    p.0.used in
+    omega (arith, l, e, loop.invariant.1.same.long)
+
+-- src/lib.rt:46:9
+pub overflow_add-done : goal.overflow_add-done
+overflow_add-done c = let the-part-of = c.part_of-m in let l = c.loop-done in let q = the-part-of.ensures in
+    omega (arith, q.2, l.invariant.0)
+
+-- src/lib.rt:42:5
+pub loop-done-smaller : goal.loop-done-smaller
+loop-done-smaller c = let q = c.part_of-m.ensures in omega (arith, q.1, q.2)
+
+-- src/lib.rt:42:5
+pub loop-done-preserved : goal.loop-done-preserved
+loop-done-preserved c = let the-part-of = c.part_of-m in let args = c.args in let l = c.loop-done in let p = c.requires in
+    let the-place = c.place-p in let q = the-part-of.ensures in
+    let a = args in
+    let b : l.done + the-part-of.result ≤ a.n = omega (arith, q.2, l.invariant.0) in (
+      b,
+      zeros-step _ _ l.done the-part-of.result p.0 p.1 (owned-part _ _ l.done the-part-of.result p.2 q.1 b) q.0
+          (the-place.ensures ∙ same_place a.g a.image.now l.image p.0.sound l.invariant.1.same a.s (a.i + l.done) p.0.used) l.invariant.1
+          c.clear_part.ensures,
+    )
+
+-- src/lib.rt:37:1
+pub shape_of-image : goal.shape_of-image
+shape_of-image c = c.loop-done.invariant.1.same.long
+
+-- src/lib.rt:37:1
+pub returns : goal.returns
+returns c = let l = c.loop-done in let a = c.args in let e : l.done ≡ a.n = omega (arith, l.invariant.0, c.loop-done-test.false) in
+    l.invariant.1.is ∙ ap (λ (k : ℕ). stored a.g a.image.now a.s a.i (replicate k 0)) e
