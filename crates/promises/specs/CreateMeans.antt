@@ -72,7 +72,8 @@ pub record Placed (g : Geometry) (d d' n : List ℕ) (x : ℕ) : Type 0 where
   pub name' : name_of g d' x ≡ n
   pub touch : Touch.Touch g (chain g d' x) [] d d'
 
-create-both : (g : Geometry) (d n : List ℕ) (f : NewFile) (checking : Bool) → (create g d n f checking).0.refusal.number ≡ 0 → (create g d n f checking).0.old ≡ false
+create-both : (g : Geometry) (d n : List ℕ) (f : NewFile) (checking : Bool) → (create g d n f checking).0.refusal.number ≡ 0
+    → (create g d n f checking).0.old ≡ false
     → CreateMeans g d (create g d n f checking).1 (fold n) f × Placed g d (create g d n f checking).1 (fold n) (new_slot g d)
 unfolding create Create.made Create.with_entry
 create-both g d n f checking e o =

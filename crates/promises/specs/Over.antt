@@ -1,6 +1,7 @@
 -- A list of bytes overwritten from a place on
 use Rattle.std.specs.Prelude.{◌≡◌, ◌⊎◌, List, ◌++◌, map, ℕ, ◌+◌, ◌-◌, ◌≤◌, ◌<◌, max, length, get_or, take, drop, replicate}
-use Rattle.std.proofs.Common.{ap, ap₂, sym, ◌∙◌, inl, inr, arith, length-append, length-take, length-drop, get_or-take, get_or-drop, get_or-append-add, ext_get_or}
+use Rattle.std.proofs.Common.{ap, ap₂, sym, ◌∙◌, inl, inr, arith, length-append, length-take, length-drop, get_or-take, get_or-drop}
+use Rattle.std.proofs.Common.{get_or-append-add, ext_get_or}
 use Rattle.std.proofs.Math.Decide.{dec_lt}
 use Rattle.std.proofs.lemmas.List.{length-replicate, get_or-replicate}
 use Rattle.std.proofs.Math.ListN.{get_or-append}
@@ -42,7 +43,8 @@ module _ (O r : List ℕ) (at : ℕ) where
   pub whole-rest : (j : ℕ) → at + length r ≤ j → get_or whole j 0 ≡ get_or O j 0
   whole-rest j a = ap (λ (x : ℕ). get_or whole x 0) (omega (arith, kept-length)) ∙ get_or-append-add kept (r ++ drop (at + length r) O)
       (length r + (j - (at + length r))) 0
-      ∙ get_or-append-add r (drop (at + length r) O) (j - (at + length r)) 0 ∙ get_or-drop (at + length r) O (j - (at + length r)) 0 ∙ ap (λ (x : ℕ). get_or O x 0)
+      ∙ get_or-append-add r (drop (at + length r) O) (j - (at + length r)) 0 ∙ get_or-drop (at + length r) O (j - (at + length r)) 0
+      ∙ ap (λ (x : ℕ). get_or O x 0)
       (omega arith)
 
 -- what a mode makes of the size

@@ -4,11 +4,13 @@
 -- refused one leaves, which number is given exactly when, and what no call changes. What the definitions of `meaning` say meets it
 -- (`EveryCall`), and a function is proved to answer what those say; what another program would have to say is in `strength`. `EveryState` says
 -- it of each state that a list of calls reaches.
-use Rattle.std.specs.Prelude.{◌≡◌, ◌≢◌, ◌↔◌, ◌⊎◌, Bool, true, false, not, ◌&&◌, List, [], ◌∷◌, ◌++◌, ℕ, ◌+◌, ◌-◌, ◌*◌, ◌%◌, ◌≤◌, ◌<◌, T, leb, eqb, length, get_or, take, drop}
+use Rattle.std.specs.Prelude.{◌≡◌, ◌≢◌, ◌↔◌, ◌⊎◌, Bool, true, false, not, ◌&&◌, List, [], ◌∷◌, ◌++◌, ℕ, ◌+◌, ◌-◌, ◌*◌, ◌%◌, ◌≤◌, ◌<◌, T, leb, eqb}
+use Rattle.std.specs.Prelude.{length, get_or, take, drop}
 use Rattle.std.proofs.Math.Seq.{slice}
 use Rattle.meaning.specs.Lists.{keep, each, first_or}
 use Rattle.meaning.specs.Bits.{bit, digit}
-use Rattle.meaning.specs.Layout.{fits_geometry, granules, granule_bytes, granule_sectors, sectors, highest, sector_numbers, most_blocks, most_units, slots, is_slot}
+use Rattle.meaning.specs.Layout.{fits_geometry, granules, granule_bytes, granule_sectors, sectors, highest, sector_numbers, most_blocks, most_units}
+use Rattle.meaning.specs.Layout.{slots, is_slot}
 use Rattle.meaning.specs.Layout.{hit, byte, taken, granules_for}
 use Rattle.meaning.specs.Names.{hash, letter, well_formed, fold, no_place, comes_in}
 use Rattle.meaning.specs.Entries.{in_use, extension, name_of, sector_count}

@@ -7,7 +7,8 @@ use Rattle.std.proofs.Math.ListN.{length-set}
 use Rattle.std.proofs.lemmas.List.{length-replicate, get_or-replicate}
 use Rattle.std.proofs.Math.Seq.{get_or-set_same, get_or-set_other}
 use Rattle.std.proofs.Math.Dec.{eqb, eqb→eq}
-use Rattle.meaning.specs.Layout.{byte, field, set_field, gat_at, hit_at, entry_at, directory_granules, directory_sectors, granule_bytes, round_up, granule_sectors}
+use Rattle.meaning.specs.Layout.{byte, field, set_field, gat_at, hit_at, entry_at, directory_granules, directory_sectors, granule_bytes, round_up}
+use Rattle.meaning.specs.Layout.{granule_sectors}
 use Rattle.lists.specs.Sizes
 use Rattle.meaning.specs.Bits.{bit}
 use Rattle.meaning.specs.Entries.{size_of, system, sector_count, end_byte}
@@ -105,7 +106,8 @@ module _ (g : Geometry) (d : List ℕ) (c : Sound g d) (k : Places.Fits g d) (p 
 
   f14 : field g d₄ p 0x14 ≡ n % 256
   unfolding words
-  f14 = get_or-set_other e₃ (entry_at g p + 1) (entry_at g p + 0x14) flag 0 (omega arith) ∙ get_or-set_other e₂ (entry_at g p + 0x15) (entry_at g p + 0x14) (n / 256)
+  f14 = get_or-set_other e₃ (entry_at g p + 1) (entry_at g p + 0x14) flag 0 (omega arith)
+      ∙ get_or-set_other e₂ (entry_at g p + 0x15) (entry_at g p + 0x14) (n / 256)
       0 (omega arith)
       ∙ get_or-set_same e₁ (entry_at g p + 0x14) (n % 256) 0 (rw (length-set, d₃-length) (omega (arith, room)))
 

@@ -15,7 +15,8 @@ use Rattle.meaning.specs.Layout.{byte, is_slot, taken, granules, hit, field, set
 use Rattle.meaning.specs.Entries.{system, runs, run_start, run_length}
 use Rattle.meaning.specs.Chain.{chain, owned, tail}
 use Rattle.meaning.specs.Free.{free_granules, lowest_free, longest_free, permitted, free_slot, free_slots}
-use Rattle.meaning.specs.Growth.{Grown, grown, no_slot, after, lengthens, lengthened, with_pair, with_extension, new_extension, extended, take_at, grow_by, and_then}
+use Rattle.meaning.specs.Growth.{Grown, grown, no_slot, after, lengthens, lengthened, with_pair, with_extension, new_extension, extended, take_at}
+use Rattle.meaning.specs.Growth.{grow_by, and_then}
 use Rattle.meaning.specs.Choice.{view}
 use Rattle.meaning.specs.declared.Geometry.{Geometry}
 use Rattle.lists.specs.Members

@@ -107,4 +107,5 @@ Itself = (g : Geometry) (d : List ℕ) → (check g d).number ≡ 0 → (i : ℕ
 -- Two disks that hold the same named files, as demand 3 says it of two interleavings, have none.
 abbrev pub Interleaved : Type 0
 Interleaved =
-    (g : Geometry) (d d' : List ℕ) → (check g d).number ≡ 0 → (check g d').number ≡ 0 → SameFiles g d d' → (i : ℕ) → compare g d g d' i ≡ tells_none (unplaced 0)
+    (g : Geometry) (d d' : List ℕ) → (check g d).number ≡ 0 → (check g d').number ≡ 0 → SameFiles g d d' → (i : ℕ)
+    → compare g d g d' i ≡ tells_none (unplaced 0)

@@ -30,7 +30,8 @@ leer_of attributes granules bytes = record { attributes = attributes; granules =
 bytes : End base nobody (but ((3840, 0x99) ∷ [])) nobody → ⊥
 unfolding opened nobody alike_in
 bytes a =
-    differ 0x63 0x99 refl (ap (λ (b : List ℕ). get_or b 0 0) ((alike_in {f = of_leer} {f' = leer_of attributes_of 1 (0x99 ∷ 0x64 ∷ [])} (a.files leer)).bytes tt))
+    differ 0x63 0x99 refl
+    (ap (λ (b : List ℕ). get_or b 0 0) ((alike_in {f = of_leer} {f' = leer_of attributes_of 1 (0x99 ∷ 0x64 ∷ [])} (a.files leer)).bytes tt))
 
 attributes : End base nobody (but ((e81 + 2, 0x3b) ∷ [])) nobody → ⊥
 unfolding opened nobody alike_in

@@ -8,14 +8,17 @@ use Prim.Native.Nat.{ℕ, zero, suc, ◌+◌, ◌*◌, ◌%◌}
 use Rattle.std.proofs.Math.Dec.{eqb, leb, ltb}
 use Rattle.std.proofs.Math.ListN.{length, get_or}
 use Rattle.meaning.specs.Lists.{keep, each, every, some, has, same, distinct, all, any, first, first_or}
-use Rattle.meaning.specs.Layout.{granule_sectors, granule_bytes, granules, fits_geometry, taken, hit, directory_sectors, is_slot, slots, field, directory_granules}
+use Rattle.meaning.specs.Layout.{granule_sectors, granule_bytes, granules, fits_geometry, taken, hit, directory_sectors, is_slot, slots, field}
+use Rattle.meaning.specs.Layout.{directory_granules}
 use Rattle.meaning.specs.Names.{hash}
-use Rattle.meaning.specs.Entries.{name_of, size_of, runs_from, runs, entry_granules, sector_count, end_byte, marker, link, in_use, extension, system, in_use_primary}
+use Rattle.meaning.specs.Entries.{name_of, size_of, runs_from, runs, entry_granules, sector_count, end_byte, marker, link, in_use, extension}
+use Rattle.meaning.specs.Entries.{system, in_use_primary}
 use Rattle.meaning.specs.Chain.{chain_from, chain, owned, files, place, granule_of}
 use Rattle.meaning.specs.Consistent.{length_holds, hit_holds, hash_holds, name_holds, pairs_hold, follows_by, link_holds_by, runs_hold, gat_holds, size_holds}
 use Rattle.meaning.specs.Consistent.{off_directory, slot_holds, file_holds, names_differ, met, directory_taken, consistent}
 use Rattle.meaning.specs.Fault.{used_extension, hands_on, ends, bad_entry, walk_from, walk, walked, met_from, file_of, good_extension, hit_fault, name_fault}
-use Rattle.meaning.specs.Fault.{duplicate_fault, chain_fault, run_fault, gat_fault, shared_fault, chain_whole, size_fault, directory_fault, fault_at, lowest, fault}
+use Rattle.meaning.specs.Fault.{duplicate_fault, chain_fault, run_fault, gat_fault, shared_fault, chain_whole, size_fault, directory_fault}
+use Rattle.meaning.specs.Fault.{fault_at, lowest, fault}
 use Rattle.meaning.specs.Refusal.{unplaced, placed, carried}
 use Rattle.meaning.specs.Refusals.{bad_geometry, by_number, fault_numbers, check}
 use Rattle.meaning.specs.declared.Refusal.{Refusal}

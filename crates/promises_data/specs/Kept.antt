@@ -8,7 +8,8 @@ use Prim.Native.Nat.{ℕ, suc, max, ◌+◌, ◌-◌, ◌*◌}
 use Rattle.std.proofs.Math.Dec.{eqb, leb, ltb}
 use Rattle.std.proofs.Math.ListN.{length, take, drop}
 use Rattle.meaning.specs.Lists.{count, keep, has, all, first, first_or, times, through, every, distinct, some, last_or}
-use Rattle.meaning.specs.Layout.{granule_sectors, granule_bytes, granules, fits_geometry, taken, take_granule, free_granule, hit, directory_sectors, is_slot, slots}
+use Rattle.meaning.specs.Layout.{granule_sectors, granule_bytes, granules, fits_geometry, taken, take_granule, free_granule, hit, directory_sectors}
+use Rattle.meaning.specs.Layout.{is_slot, slots}
 use Rattle.meaning.specs.Layout.{field, set_field, highest, sector_numbers, granules_for, byte}
 use Rattle.meaning.specs.Names.{hash, comes_in}
 use Rattle.meaning.specs.Entries.{name_of, size_of, runs_from, runs, sector_count, keeps_space, no_growth, extension, in_use, system, run_start, run_length}

@@ -15,7 +15,8 @@ use Rattle.meaning.specs.declared.NewFile.{NewFile}
 use Rattle.meaning.specs.declared.Mode.{Mode}
 use Rattle.meaning.specs.declared.Refusal.{Refusal}
 use Rattle.drives.specs.Pair.{Pair, geometry, image, leaving, no_such_drive, of_disk, naming', fault_drive, no_drive, tested, handle_on, answered}
-use Rattle.drives.specs.ByName.{looked_up_on, opened_on, created_on, not_looked_up, not_opened, not_created, searched, passed_over, takes, look_up, open_file, create}
+use Rattle.drives.specs.ByName.{looked_up_on, opened_on, created_on, not_looked_up, not_opened, not_created, searched, passed_over, takes, look_up}
+use Rattle.drives.specs.ByName.{open_file, create}
 use Rattle.drives.specs.ByHandle.{unheld, part_on, no_part, read_record, read_sector, write_record, allot, trim, kill}
 use Rattle.drives.specs.declared.DriveAnswer.{DriveAnswer}
 use Rattle.drives.specs.declared.DriveHandle.{DriveHandle}
@@ -56,7 +57,8 @@ Spares = (p : Pair) (n k : ℕ) (d : List ℕ) → n ≢ k → leaving p n d k �
 
 -- where neither disk is refused it is the call on the drive that the search names, whatever stands for the number
 pub record Without (p : Pair) : Type 0 where
-  pub looks_up : (k : ℕ) (m : List ℕ) → let j = searched p m in look_up p false k m ≡ looked_up_on j (passed_over p m) (LookUp.look_up (geometry p j) (image p j) m)
+  pub looks_up : (k : ℕ) (m : List ℕ)
+      → let j = searched p m in look_up p false k m ≡ looked_up_on j (passed_over p m) (LookUp.look_up (geometry p j) (image p j) m)
   pub opens : (k : ℕ) (m : List ℕ) (len : ℕ) (checking : Bool) (code : ℕ)
       → open_file p false k m len checking code ≡ open_file p true (searched p m) m len checking code
   pub creates : (k : ℕ) (m : List ℕ) (f : NewFile) (checking : Bool) → create p false k m f checking ≡ create p true (takes p m) m f checking

@@ -6,8 +6,10 @@ use mathlib.Core.List.{List, [], ◌∷◌}
 use Rattle.meaning.specs.Amount.{one_record, whole_buffer}
 use Rattle.meaning.specs.declared.Geometry.{Geometry}
 use Rattle.meaning.specs.declared.NewFile.{NewFile}
-use Rattle.genie.specs.Exports.{exported_check, exported_look_up, exported_open, exported_create, exported_read_record, exported_read_bytes, exported_read_sector}
-use Rattle.genie.specs.Exports.{exported_write_record, exported_write_bytes, exported_allot, exported_trim, exported_kill, exported_list, exported_count, exported_free}
+use Rattle.genie.specs.Exports.{exported_check, exported_look_up, exported_open, exported_create, exported_read_record, exported_read_bytes}
+use Rattle.genie.specs.Exports.{exported_read_sector}
+use Rattle.genie.specs.Exports.{exported_write_record, exported_write_bytes, exported_allot, exported_trim, exported_kill, exported_list}
+use Rattle.genie.specs.Exports.{exported_count, exported_free}
 use Rattle.promises_exports.specs.Host.{left, HostPromise}
 use Rattle.promises_exports.specs.Host.{checks, looks_up, opens, creates, reads, reads_sector, writes, allots, trims, kills, lists, counts, measures}
 use Rattle.promises_exports.specs.Proved.{promise-by}

@@ -23,7 +23,8 @@ use Rattle.lists.specs.Members.{In, in-append-l, in-append-r}
 use Rattle.promises.specs.Said.{Said, says}
 use Rattle.promises.specs.Kept.{every_call}
 use Rattle.drives.specs.Pair.{Pair, image, geometry, leaving, on_drive, no_such_drive, naming', tested, of_both, handle_on, no_drive_handle, drive_of}
-use Rattle.drives.specs.ByName.{by_name, look_up, open_file, create, open_on, create_on, looked_up_on, opened_on, created_on, not_looked_up, not_opened, not_created}
+use Rattle.drives.specs.ByName.{by_name, look_up, open_file, create, open_on, create_on, looked_up_on, opened_on, created_on, not_looked_up}
+use Rattle.drives.specs.ByName.{not_opened, not_created}
 use Rattle.drives.specs.ByName.{searched, passed_over, takes}
 use Rattle.drives.specs.ByHandle.{changing, read_record, read_sector, write_record, allot, trim, kill, read_on, write_on, allot_on, trim_on, kill_on}
 use Rattle.drives.specs.declared.DriveHandle.{DriveHandle}
@@ -39,7 +40,8 @@ use Rattle.drives_codec.specs.Codec as drives-codec
 use Rattle.genie_codec.specs.Codec as codec
 use Rattle.genie_codec.specs.Words.{mode_of}
 use Rattle.genie.specs.Drives.{looks, opens, creates, reads, writes, changes, lies, after}
-use Rattle.genie.specs.Drives.{drives_look_up, drives_open, drives_create, drives_read_record, drives_read_sector, drives_write_record, drives_allot, drives_trim}
+use Rattle.genie.specs.Drives.{drives_look_up, drives_open, drives_create, drives_read_record, drives_read_sector, drives_write_record}
+use Rattle.genie.specs.Drives.{drives_allot, drives_trim}
 use Rattle.genie.specs.Drives.{drives_kill}
 use Rattle.promises_numbers.specs.Statement.{numbers, of_disk}
 use Rattle.promises_numbers.specs.Kept.{every-number}

@@ -15,8 +15,10 @@ use Rattle.promises_fault.specs.Statement.{FaultIs}
 use Rattle.genie_codec.specs.Codec.{handle_bytes, name_bytes, handle_of}
 use Rattle.genie_codec.specs.Words.{mode_of}
 use Rattle.genie.specs.Exports as exports
-use Rattle.genie.specs.Exports.{exported_check, exported_look_up, exported_open, exported_create, exported_read_record, exported_read_bytes, exported_read_sector}
-use Rattle.genie.specs.Exports.{exported_write_record, exported_write_bytes, exported_allot, exported_trim, exported_kill, exported_list, exported_count, exported_free}
+use Rattle.genie.specs.Exports.{exported_check, exported_look_up, exported_open, exported_create, exported_read_record, exported_read_bytes}
+use Rattle.genie.specs.Exports.{exported_read_sector}
+use Rattle.genie.specs.Exports.{exported_write_record, exported_write_bytes, exported_allot, exported_trim, exported_kill, exported_list}
+use Rattle.genie.specs.Exports.{exported_count, exported_free}
 
 -- 1. What a host asks, and what it has afterwards ---------------------------------------------------------------------------------------------
 

@@ -1,7 +1,8 @@
 -- The exports whose calls are none of demand 2's thirteen: the check of a name, bring back, play back, the listing in one call, compare, load record, and
 -- those over two drives. Of each: all that goes out is what its contract fixes, its number is 0 or one of its table, under any other than 0 every
 -- slice that it was lent is as it stood (an opened handle's: zeros, and behind them as it stood), and what it does is what is promised of its call.
-use Rattle.std.specs.Prelude.{ℕ, zero, suc, ◌+◌, ◌*◌, ◌≤◌, ◌<◌, ◌≡◌, ◌≢◌, Bool, true, false, cond, List, [], ◌∷◌, ◌++◌, eqb, length, get_or, take, drop, replicate}
+use Rattle.std.specs.Prelude.{ℕ, zero, suc, ◌+◌, ◌*◌, ◌≤◌, ◌<◌, ◌≡◌, ◌≢◌, Bool, true, false, cond, List, [], ◌∷◌, ◌++◌, eqb, length, get_or, take}
+use Rattle.std.specs.Prelude.{drop, replicate}
 use Rattle.std.proofs.lemmas.List.Edits.{sets}
 use Rattle.meaning.specs.Names.{fold}
 use Rattle.meaning.specs.Amount.{one_record}
@@ -45,7 +46,8 @@ use Rattle.genie.specs.Table.{exported_list_from}
 use Rattle.genie.specs.Compared.{exported_compare, tells_difference}
 use Rattle.genie.specs.Program.{exported_load_record}
 use Rattle.genie.specs.Drives as exports
-use Rattle.genie.specs.Drives.{drives_look_up, drives_open, drives_create, drives_read_record, drives_read_sector, drives_write_record, drives_allot, drives_trim}
+use Rattle.genie.specs.Drives.{drives_look_up, drives_open, drives_create, drives_read_record, drives_read_sector, drives_write_record}
+use Rattle.genie.specs.Drives.{drives_allot, drives_trim}
 use Rattle.genie.specs.Drives.{drives_kill}
 use Rattle.promises_numbers.specs.Statement.{numbers, rows_of}
 

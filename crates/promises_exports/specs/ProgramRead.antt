@@ -63,7 +63,8 @@ module _ (g : Geometry) (d : List ℕ) where
   -- a handle that is admitted fits its bytes wherever its place is a good one
   fits : (h : Handle) (at : ℕ) (x : List ℕ) → HandleFits h → Admitted g d (moved_to h at) x → HandleFits (moved_to h at)
   fits h at x f e =
-      let w = Passing.handle-passed g d (moved_to h at) (all (in_range g (moved_to h at) ∷ leb most_bytes (length x) ∷ [])) (not_for_reading (moved_to h at) ∷ []) e in
+      let w = Passing.handle-passed g d (moved_to h at) (all (in_range g (moved_to h at) ∷ leb most_bytes (length x) ∷ []))
+      (not_for_reading (moved_to h at) ∷ []) e in
       let i = (Refusing.range-iff g (moved_to h at)).0 (Passing.first_of (in_range g (moved_to h at)) (leb most_bytes (length x) ∷ []) w.1) in
       record { slot = f.slot; level = f.level; len = f.len; at = omega (arith, i.at, Sizes.bytes-are g, Sizes.sectors-most g); name = f.name }
 

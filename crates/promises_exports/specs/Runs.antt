@@ -99,7 +99,8 @@ module _ (g : Geometry) (n : Name) (d : List ℕ) (s : HostSide) (h : AllHold s.
   disk-by c e z = ap (leaves g d) e ∙ sym (image-is g d c (long-enough g d c z))
 
   -- the slice of an accepted call: as long as it was lent, and the handle in it fits
-  fine-by : (c : HostCall) {x : Handle} → (left_by g d c).number ≡ 0 → handle_bytes ≤ length (lent_handle c) → handle_of (left_by g d c).handle ≡ x → HandleFits x
+  fine-by : (c : HostCall) {x : Handle} → (left_by g d c).number ≡ 0 → handle_bytes ≤ length (lent_handle c) → handle_of (left_by g d c).handle ≡ x
+      → HandleFits x
       → HoldsHandle (left_by g d c).handle
   fine-by c z l q f =
       let e = long-enough g d c z in

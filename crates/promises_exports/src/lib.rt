@@ -1,6 +1,7 @@
 // Each exported function, called: what it promises of a host's bytes is what demands 1 and 2 ask (specs/Host.antt). Nothing else is done here, and nothing
 // calls these functions. They stand here so that the promise is proved from the export's own contract: where that says less, the proof here fails.
 #![tactic(auto)]
+
 ghost use Rattle.std.specs.Prelude.{◌≡◌, [], ◌∷◌, ◌+◌};
 ghost use Rattle.meaning.specs.Amount.{one_record, whole_buffer};
 ghost use Rattle.meaning.specs.Read.{read_sector};

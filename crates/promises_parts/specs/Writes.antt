@@ -109,7 +109,8 @@ no-growth-row false b e = rw e
 -- the image after a write into granules that the file owns
 abbrev over : Geometry → List ℕ → ℕ → Mode → ℕ → ℕ → List ℕ → List ℕ
 over g d p m at len r =
-    with_size g (store (place g d p) (store (place g d p) d (size_of g d p) (replicate (at - size_of g d p) 0)) at r) p (size_after m (size_of g d p) (at + len))
+    with_size g (store (place g d p) (store (place g d p) d (size_of g d p) (replicate (at - size_of g d p) 0)) at r) p
+    (size_after m (size_of g d p) (at + len))
 
 module _ (g : Geometry) (d : List ℕ) (m : Mode) (h : Handle) (n : ℕ) (b : List ℕ) where
   abbrev tests : List Bool

@@ -121,7 +121,8 @@ module _ (g : Geometry) (d₀ : List ℕ) (c₀ : Sound g d₀) (n : Name) where
   module _ (d e : List ℕ) (ld : Laid g d₀ d) (le : Laid g d₀ e) (cd : Sound g d) (ce : Sound g e) (a : Agreed (region g d₀ (fold n)) d e) (hs : List Handle)
       (held : Held (fold n) hs) where
     same-open : (len : ℕ) (checking : Bool) (code : ℕ) → (T (missing g d (fold n)) → ⊥)
-        → opened_at g d (first_or 0 (named g d (fold n))) (fold n) len checking code ≡ opened_at g e (first_or 0 (named g e (fold n))) (fold n) len checking code
+        → opened_at g d (first_or 0 (named g d (fold n))) (fold n) len checking code
+        ≡ opened_at g e (first_or 0 (named g e (fold n))) (fold n) len checking code
     same-open len checking code o =
         let o₀ : T (missing g d₀ (fold n)) → ⊥ = λ t. o (subst (λ (l : List ℕ). T (eqb (length l) 0)) (sym (ld.names (fold n))) t) in
         ap (λ (l : List ℕ). opened_at g d (first_or 0 l) (fold n) len checking code) (ld.names (fold n))

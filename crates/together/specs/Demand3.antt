@@ -177,8 +177,8 @@ demand3 g a b ab d fit con xs ys zs zs' i i' t t' =
       handles = (ap (λ (o : FileState). o.grips) first', ap (λ (o : FileState). o.grips) second');
     }
   where
-    everywhere : state_in g a (after g a b (start d) zs) ≡ state_in g a (after g a b (start d) zs') → state_in g b (swap (after g a b (start d) zs)) ≡ state_in g
-        b (swap (after g a b (start d) zs'))
+    everywhere : state_in g a (after g a b (start d) zs) ≡ state_in g a (after g a b (start d) zs')
+        → state_in g b (swap (after g a b (start d) zs)) ≡ state_in g b (swap (after g a b (start d) zs'))
         → (n : Name) → Dec (n ≡ fold a) → Dec (n ≡ fold b) → stands g (after g a b (start d) zs).disk n ≡ stands g (after g a b (start d) zs').disk n
     everywhere p q n (yes e) r = rw e (ap (λ (o : FileState). o.file) p)
     everywhere p q n (no e) (yes r) = rw r (ap (λ (o : FileState). o.file) q)

@@ -70,7 +70,8 @@ module _ (g : Geometry) (n : Name) (d : List ℕ) (s : Side) (held : Held n s.ha
   hs = s.handles
 
   read_kept : (a : Amount) (i : ℕ) (b : List ℕ) → T (ltb i (length hs)) → (read_of g d (handle_at hs i) (many_by hs a i b) b).0.refusal.number ≡ 0
-      → kept (plain g d n) (read_of g d (handle_at hs i) (many_by hs a i b) b).1 ≡ part_of (read_to a (get_or (map grip hs) i (grip no_handle)) b) (stands g d n)
+      → kept (plain g d n) (read_of g d (handle_at hs i) (many_by hs a i b) b).1
+      ≡ part_of (read_to a (get_or (map grip hs) i (grip no_handle)) b) (stands g d n)
   unfolding stands
   read_kept a i b t e =
       let r = Sector.read-serves g d (handle_at hs i) (many_by hs a i b) b e in

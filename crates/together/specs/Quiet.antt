@@ -176,7 +176,8 @@ module _ (g : Geometry) (d : List ℕ) (n : Name) (h : Handle) (e : h.name ≡ n
 -- the image after a write that takes nothing
 unfoldable pub written : Geometry → List ℕ → ℕ → Mode → ℕ → ℕ → List ℕ → List ℕ
 written g d p m at len r =
-    with_size g (store (place g d p) (store (place g d p) d (size_of g d p) (replicate (at - size_of g d p) 0)) at r) p (size_after m (size_of g d p) (at + len))
+    with_size g (store (place g d p) (store (place g d p) d (size_of g d p) (replicate (at - size_of g d p) 0)) at r) p
+    (size_after m (size_of g d p) (at + len))
 
 pub record QuietWrite (g : Geometry) (d : List ℕ) (m : Mode) (h : Handle) (many : ℕ) (b d' : List ℕ) : Type 0 where
   pub holds : Holds g d h
@@ -184,7 +185,8 @@ pub record QuietWrite (g : Geometry) (d : List ℕ) (m : Mode) (h : Handle) (man
   pub len : length (take many b) ≡ many
   pub fit : size_after m (size_of g d h.slot) (h.at + many) ≤ granule_bytes g * length (owned g d h.slot)
 
-pub write-quiet : (g : Geometry) (d : List ℕ) (n : Name) (m : Mode) (h : Handle) (many : ℕ) (b : List ℕ) → h.name ≡ n → (write_of g d m h many b).0.refusal.number ≡ 0 → Even g n d (write_of g d m h many b).1
+pub write-quiet : (g : Geometry) (d : List ℕ) (n : Name) (m : Mode) (h : Handle) (many : ℕ) (b : List ℕ) → h.name ≡ n
+    → (write_of g d m h many b).0.refusal.number ≡ 0 → Even g n d (write_of g d m h many b).1
     → QuietWrite g d m h many b (write_of g d m h many b).1
 unfolding growth or_else
 write-quiet g d n m h many b e t q =
@@ -311,8 +313,8 @@ module _ (g : Geometry) (d : List ℕ) (c : Sound g d) where
   unfolding region region_of words
   region-laid d' l n i = rw (l.names n) (go (Named.look g d c n))
     where
-      go : ((p : ℕ) × Facts.IsFile g d p × (name_of g d p ≡ n)) ⊎ ((p : ℕ) → Facts.IsFile g d p → name_of g d p ≢ n) → region_of g d' (named g d n) i ≡ region_of
-          g d (named g d n) i
+      go : ((p : ℕ) × Facts.IsFile g d p × (name_of g d p ≡ n)) ⊎ ((p : ℕ) → Facts.IsFile g d p → name_of g d p ≢ n)
+          → region_of g d' (named g d n) i ≡ region_of g d (named g d n) i
       go (inl w) =
           let one : named g d n ≡ w.0 ∷ [] = ap (named g d) (sym w.2) ∙ Named.named-is g d c w.0 w.1 in
           rw one (rw (l.owns w.0 w.1, l.above))
@@ -344,8 +346,8 @@ module _ (g : Geometry) (d : List ℕ) (c : Sound g d) where
           let l = Facts.slot_lt g d p f.slot in let l' = Facts.slot_lt g d q h.slot in
           n (omega arith)
 
-      apart : (p q : ℕ) → Facts.IsFile g d p → Facts.IsFile g d q → p ≢ q → T (in_entry g p i) ⊎ T (in_data g d p i) → T (in_entry g q i) ⊎ T (in_data g d q i) →
-          ⊥
+      apart : (p q : ℕ) → Facts.IsFile g d p → Facts.IsFile g d q → p ≢ q → T (in_entry g p i) ⊎ T (in_data g d p i)
+          → T (in_entry g q i) ⊎ T (in_data g d q i) → ⊥
       apart p q f h n (inl x) (inl y) = entries p q f h n x y
       apart p q f h n (inl x) (inr y) = data-not-entry q p f y x
       apart p q f h n (inr x) (inl y) = data-not-entry p q h x y

@@ -102,7 +102,8 @@ module _ (g : Geometry) (d : List ℕ) (n : Name) (m : Mode) (h : Handle) (many 
     laid = rewrites-laid g d (written g d p m h.at many (take many b)) w.holds.sound p w.holds.file w.holds.user rewrites;
     outside = λ i o. untouched i
         (λ t. o (rw (own-region i) (Members.or_l (in_entry g p i) (in_data g d p i) t)))
-        (λ v. o (rw (own-region i) (Members.or_r (in_entry g p i) (in_data g d p i) (Members.and_i (has (owned g d p) (i / granule_bytes g)) _ (Members.in-has v)
+        (λ v. o (rw (own-region i)
+        (Members.or_r (in_entry g p i) (in_data g d p i) (Members.and_i (has (owned g d p) (i / granule_bytes g)) _ (Members.in-has v)
         (not_T (has (directory_granules g d) (i / granule_bytes g))
         (λ y. (Change.filed-at g d w.holds.sound p w.holds.file).off w.holds.user (i / granule_bytes g) v
         (Members.has_in (i / granule_bytes g) (directory_granules g d) y)))))));
@@ -128,7 +129,8 @@ module _ (P : ℕ → Bool) where
   agreed-store F [] x y i a = a
   agreed-store F (b ∷ bs) x y i a = agreed-store F bs (set x (F i) b) (set y (F i) b) (i + 1) (agreed-set x y (F i) b a)
 
-  agreed-size : (g : Geometry) (d e x y : List ℕ) (p size : ℕ) → T (P (entry_at g p + 1)) → Agreed P x y → Agreed P (with_size g x p size) (with_size g y p size)
+  agreed-size : (g : Geometry) (d e x y : List ℕ) (p size : ℕ) → T (P (entry_at g p + 1)) → Agreed P x y
+      → Agreed P (with_size g x p size) (with_size g y p size)
   unfolding words
   agreed-size g d e x y p size t a =
       let n = round_up size 256 in
