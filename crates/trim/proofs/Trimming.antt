@@ -123,7 +123,8 @@ module _ (g : Geometry) (p : ℕ) where
   pub dropping-one : {d d' : List ℕ} {n at left : ℕ} → Dropping g p d n d' at left → 0 < left → Last g d' p at 1
   dropping-one i h = record { ready = i.last.ready; last = i.last.last; room = omega (arith, i.last.room, mul-le-mul_left (granule_bytes g) h) }
 
-  pub dropping-step : {d d' d'' : List ℕ} {n at left b : ℕ} → Dropping g p d n d' at left → 0 < left → (d'' ≡ drop_one g p d') × (b ≡ tail g p (drop_one g p d'))
+  pub dropping-step : {d d' d'' : List ℕ} {n at left b : ℕ} → Dropping g p d n d' at left → 0 < left
+      → (d'' ≡ drop_one g p d') × (b ≡ tail g p (drop_one g p d'))
       → Dropping g p d n d'' b (left - 1)
   dropping-step {d} {d'} {d''} {n} {at} {left} {b} i h q =
       let r = i.last.ready in

@@ -1,5 +1,6 @@
 // Trim: the granules that a file has no need of are dropped, the last ones first, run by run.
 #![tactic(auto)]
+
 ghost use Rattle.std.specs.Prelude.{◌≡◌, ◌+◌, ◌-◌, ◌*◌, ◌/◌, ◌<◌, ◌≤◌, length};
 ghost use Rattle.meaning.specs.Lists.{times};
 ghost use Rattle.meaning.specs.Layout.{field, set_field, entry_at};
