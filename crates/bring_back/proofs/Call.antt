@@ -2,12 +2,12 @@
 use mathlib.Core.Path.{◌≡◌, sym, ap, subst, ◌∙◌}
 use mathlib.Core.List.{List, [], ◌∷◌}
 use mathlib.Core.Bool.{true, false, not}
-use Prim.Native.Nat.{ℕ, ◌+◌}
+use Prim.Native.Nat.{ℕ}
 use lib.ListN.{length}
 use lib.Dec.{eqb}
 use borrow.Author.Tests.{ne_eqb}
 use Rattle.meaning.specs.Lists.{each, some, through}
-use Rattle.meaning.specs.Layout.{is_slot, taken, take_granule, slots}
+use Rattle.meaning.specs.Layout.{is_slot, taken, take_granule}
 use Rattle.meaning.specs.Names.{hash}
 use Rattle.meaning.specs.Entries.{in_use, system, name_of, entry_granules}
 use Rattle.meaning.specs.Chain.{chain, owned}

@@ -1,6 +1,5 @@
 -- What the tests of the call give.
 use Rattle.std.specs.Prelude.{◌≡◌, List, ℕ, ◌<◌}
-use Rattle.meaning.specs.Layout.{granules}
 use Rattle.meaning.specs.Names.{hash}
 use Rattle.meaning.specs.Entries.{name_of}
 use Rattle.meaning.specs.Chain.{chain}

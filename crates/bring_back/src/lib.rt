@@ -1,6 +1,7 @@
 // Bring back a killed series (request 02, §11). The entries of the killed file are found and written down first; whatever can refuse the
 // call is tested before anything is written.
 #![tactic(auto)]
+
 ghost use Rattle.std.specs.Prelude.{◌≡◌, length};
 ghost use Rattle.meaning.specs.Layout.{granules};
 ghost use Rattle.meaning.specs.Refusals.{check};
