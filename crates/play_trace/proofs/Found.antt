@@ -1,16 +1,15 @@
 -- Where a step and a name of a reading stand in the trace.
 use mathlib.Core.Path.{◌≡◌, refl, sym, ap, ◌∙◌}
 use mathlib.Core.List.{List, [], ◌∷◌}
-use Prim.Native.Nat.{ℕ, zero, suc, ◌+◌, ◌*◌, ◌-◌, ◌/◌, ◌≤◌, ◌<◌}
+use Prim.Native.Nat.{ℕ, zero, suc, ◌+◌, ◌*◌, ◌≤◌, ◌<◌}
 use native.Mathlib.Omega.{arith}
 use lib.ListN.{length, get_or}
 use Rattle.play_trace.specs.Bits.{bits, field, length-bits}
-use Rattle.play_trace.specs.Steps.{fields, first_bad, step_of, no_step}
+use Rattle.play_trace.specs.Steps.{step_of, no_step}
 use Rattle.play_trace.specs.Reading.{Trace, Reading, reads, bad_at, on_read, fields_from, names_from, call_start, numbers_at, read_calls, read_bits, read_trace}
 use Rattle.play_trace.specs.Reading.{whole_calls, steps_of, names_of}
 use Rattle.play_trace.specs.Bytes.{byte-field}
 use Rattle.play_trace.specs.declared.Step.{Step}
-use Rattle.play_trace.specs.declared.Numbers.{Numbers}
 use Rattle.play_trace.proofs.Calls.{calls-none}
 use Rattle.play_trace.proofs.Front.{NamesThere, with_names, Front, none, few, many, cut, calls, front, Turn, bad, end, on, turn}
 
@@ -128,7 +127,8 @@ byte-there : (d : List ℕ) (q k : ℕ) → q ≡ 8 * k → k < length d → get
 byte-there d q k e h s = sym (ap (λ (x : ℕ). field (bits d) x 8) e ∙ byte-field d k h s)
 
 pub name-bytes : (d : List ℕ) (at : ℕ) → at + 11 ≤ length d → ((i : ℕ) → get_or d i 0 < 256) → (p : ℕ) → p ≡ 8 * at
-    → get_or d at 0 ∷ get_or d (at + 1) 0 ∷ get_or d (at + 2) 0 ∷ get_or d (at + 3) 0 ∷ get_or d (at + 4) 0 ∷ get_or d (at + 5) 0 ∷ get_or d (at + 6) 0 ∷ get_or d (at + 7) 0
+    → get_or d at 0 ∷ get_or d (at + 1) 0 ∷ get_or d (at + 2) 0 ∷ get_or d (at + 3) 0 ∷ get_or d (at + 4) 0 ∷ get_or d (at + 5) 0 ∷ get_or d (at + 6)
+    0 ∷ get_or d (at + 7) 0
     ∷ get_or d (at + 8) 0 ∷ get_or d (at + 9) 0 ∷ get_or d (at + 10) 0 ∷ [] ≡ fields_from (bits d) p 8 11
 unfolding fields_from
 name-bytes d at h s p e =

@@ -1,13 +1,13 @@
 -- What reading looks at first: the number of names, and whether they are there. Each outcome as a case, so that a proof about a reading goes by
 -- these cases and opens no definition; the same for one call.
 use mathlib.Core.Path.{◌≡◌, refl, sym, ap, subst, ◌∙◌}
-use mathlib.Core.Bool.{Bool, true, false, cond}
+use mathlib.Core.Bool.{Bool, true, false}
 use mathlib.Core.List.{List, [], ◌∷◌}
-use Prim.Native.Nat.{ℕ, zero, suc, ◌+◌, ◌*◌, ◌-◌, ◌/◌, ◌%◌, ◌≤◌, ◌<◌}
+use Prim.Native.Nat.{ℕ, suc, ◌+◌, ◌*◌, ◌/◌, ◌%◌, ◌≤◌, ◌<◌}
 use native.Mathlib.Omega.{arith}
 use lib.Dec.{eqb, ltb}
 use lib.ListN.{length, get_or}
-use borrow.Author.Tests.{eqb-true, eqb-false, ltb-true, ltb-false, eq-eqb, ne_eqb, lt-ltb, le-ltb}
+use borrow.Author.Tests.{eqb-true, eqb-false, ltb-true, ltb-false, lt-ltb, le-ltb}
 use Rattle.play_trace.specs.Bits.{bits, field, length-bits}
 use Rattle.play_trace.specs.Steps.{fields, first_bad, step_of}
 use Rattle.play_trace.specs.Reading.{Trace, Reading, reads, bad_at, on_read, names_from, call_start, numbers_at, read_calls, read_bits, read_trace, whole_calls}
@@ -15,7 +15,7 @@ use Rattle.play_trace.specs.Reading.{well_with, fault_at, tell, tell_from, calls
 use Rattle.play_trace.specs.Bytes.{byte-field}
 use Rattle.play_trace.specs.declared.Step.{Step}
 use Rattle.play_trace.specs.declared.Checked.{Checked}
-use Rattle.play_trace.proofs.Calls.{calls-none, calls-bad, calls-end, calls-on}
+use Rattle.play_trace.proofs.Calls.{calls-bad, calls-end, calls-on}
 
 -- one number is below another, or reaches it; is another, or not
 pub data Order (a b : ℕ) : Type 0 where
@@ -109,7 +109,8 @@ module _ (bs : List ℕ) where
     pub turn : Turn (read_calls bs n (suc k) i)
     turn = go (order (first_bad n (numbers_at bs (call_start n i)) fields) 56) (look (numbers_at bs (call_start n i)).operation 0)
       where
-        go : Order (first_bad n (numbers_at bs (call_start n i)) fields) 56 → Alike (numbers_at bs (call_start n i)).operation 0 → Turn (read_calls bs n (suc k) i)
+        go : Order (first_bad n (numbers_at bs (call_start n i)) fields) 56 → Alike (numbers_at bs (call_start n i)).operation 0 → Turn (read_calls
+            bs n (suc k) i)
         go (below h) a = subst (λ (r : Reading (List Step)). Turn r) (sym (calls-bad bs n k i h)) (bad h)
         go (reaches h) (alike e) = subst (λ (r : Reading (List Step)). Turn r) (sym (calls-end bs n k i h e)) (end h e)
         go (reaches h) (unlike e) = subst (λ (r : Reading (List Step)). Turn r) (sym (calls-on bs n k i h e)) (on h e)

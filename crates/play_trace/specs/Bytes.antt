@@ -1,5 +1,5 @@
 -- The six numbers of a call from its seven bytes.
-use Rattle.std.specs.Prelude.{◌≡◌, refl, List, [], ◌∷◌, ◌++◌, ℕ, zero, suc, ◌+◌, ◌*◌, ◌/◌, ◌%◌, ◌^◌, ◌≤◌, ◌<◌, length, drop, get_or}
+use Rattle.std.specs.Prelude.{◌≡◌, List, [], ◌∷◌, ◌++◌, ℕ, ◌+◌, ◌*◌, ◌/◌, ◌%◌, ◌^◌, ◌≤◌, ◌<◌, length, drop, get_or}
 use Rattle.std.proofs.Common.{sym, ◌∙◌, add-mul, mul_assoc, add_assoc, add-one, pow-add, arith, length-append, drop-cons}
 use Rattle.std.proofs.Math.Path.{ap}
 use Rattle.play_trace.specs.Bits.{bits_of, number, bits, field, there_and_back, length-bits_of, number-snoc, field-drop, field-front, drop_bits}

@@ -1,5 +1,5 @@
 -- A trace made from names and steps; and what it is for a trace to have a reading.
-use Rattle.std.specs.Prelude.{◌≡◌, List, [], ◌∷◌, ◌++◌, ℕ, zero, suc, ◌+◌, ◌*◌, ◌/◌, ◌^◌, ◌≤◌, ◌<◌, length}
+use Rattle.std.specs.Prelude.{◌≡◌, List, [], ◌∷◌, ◌++◌, ℕ, ◌/◌, ◌^◌, ◌≤◌, ◌<◌, length}
 use Rattle.promises_words.specs.Given.{AreBytes}
 use Rattle.play_trace.specs.Bits.{bits_of, bits, bytes_of}
 use Rattle.play_trace.specs.Steps.{Field, fields, width_of, value_of, numbers_of, end_mark}

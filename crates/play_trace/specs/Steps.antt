@@ -5,10 +5,6 @@
 -- too. Fields a call doesn't use must be zero, and a file number must be below the number of names."
 use Rattle.std.specs.Prelude.{Bool, true, false, not, cond, List, [], ◌∷◌, ℕ, eqb, ltb}
 use Rattle.meaning.specs.Lists.{has}
-use Rattle.play_trace.specs.declared.CreateWith.{CreateWith}
-use Rattle.play_trace.specs.declared.WriteWith.{WriteWith}
-use Rattle.play_trace.specs.declared.AllotWith.{AllotWith}
-use Rattle.play_trace.specs.declared.ReadWith.{ReadWith}
 use Rattle.play_trace.specs.declared.Call.{Call}
 use Rattle.play_trace.specs.declared.Call.TheVariants.{Create, SequentialWrite, RandomWrite, Allot, Trim, Kill, Read}
 use Rattle.play_trace.specs.declared.Step.{Step}

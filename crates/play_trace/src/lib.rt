@@ -1,5 +1,6 @@
 // The trace of a recorded session (02 §6): its steps, whether it is well formed, and each step. What a trace means is in specs/Reading.antt.
 #![tactic(auto)]
+
 ghost use Rattle.std.specs.Prelude.{◌≡◌, true, cond, ◌+◌, ◌*◌, ◌≤◌, ◌<◌, eqb, ltb, length, get_or, []};
 ghost use Rattle.play_trace.specs.Bits.{bits};
 ghost use Rattle.play_trace.specs.Steps.{uses, fields, first_bad, step_of, no_step};
