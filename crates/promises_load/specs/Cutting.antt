@@ -10,7 +10,8 @@ use Rattle.std.proofs.Math.Seq.{drop-drop}
 use borrow.Author.Tests.{le-leb, lt-leb, lt-ltb, le-ltb, eq-eqb, ne_eqb}
 use Rattle.meaning.specs.Lists.{first, has}
 use Rattle.meaning.specs.Refusals.{accepted}
-use Rattle.load.specs.Records.{data_code, start_code, comment_code, is_code, data_bytes, follows, bad_count, code_at, count_at, address_at, end_of, item_refusals}
+use Rattle.load.specs.Records.{data_code, start_code, comment_code, is_code, data_bytes, follows, bad_count, code_at, count_at, address_at, end_of}
+use Rattle.load.specs.Records.{item_refusals}
 use Rattle.load.specs.Records.{position_of, item_at, past, told_at, record_from}
 use Rattle.load.specs.Cut.{Record, Pieces, starts, breaks, ending, onto, cut_whole, cut_behind, cut_one, cut_from, cut}
 use Rattle.load.specs.Load.{load_numbers}

@@ -22,7 +22,9 @@ module _ (g : Geometry) (d : List ℕ) where
 
   -- 12 the handle's numbers or a buffer under 255 bytes; 6 a level over 5
   abbrev pub load_cases : Handle → ℕ → Table
-  load_cases h room = handle_cases g d h (InRange g h × (most_bytes ≤ room)) ((6, 5 < h.level) ∷ Told h unknown_code ∷ Told h file_ends ∷ Told h wrong_count ∷ [])
+  load_cases h room =
+      handle_cases g d h (InRange g h × (most_bytes ≤ room))
+      ((6, 5 < h.level) ∷ Told h unknown_code ∷ Told h file_ends ∷ Told h wrong_count ∷ [])
 
   ranged-iff : (h : Handle) (room : ℕ) → T (all (in_range g h ∷ leb most_bytes room ∷ [])) ↔ (InRange g h × (most_bytes ≤ room))
   unfolding all

@@ -21,7 +21,8 @@ use Rattle.laws.specs.Passed.{disk-passed, check-none}
 
 module _ (g : Geometry) (d : List ℕ) where
   -- row k of the rows of these files is the row of the k-th of them
-  rows_at : (ps : List ℕ) (k : ℕ) → k < length ps → (more : List ℕ) → take row_bytes (drop (row_bytes * k) (each (row g d) ps ++ more)) ≡ row g d (get_or ps k 0)
+  rows_at : (ps : List ℕ) (k : ℕ) → k < length ps → (more : List ℕ)
+      → take row_bytes (drop (row_bytes * k) (each (row g d) ps ++ more)) ≡ row g d (get_or ps k 0)
   rows_at [] k h more = absurd (let q : ⊥ = omega arith in q)
   rows_at (p ∷ ps) zero h more =
       ap (take row_bytes) (append_assoc (row g d p) (each (row g d) ps) more)

@@ -24,7 +24,8 @@ use Rattle.meaning.specs.Free.{free_granules, free_slots}
 use Rattle.meaning.specs.Growth.{fails, growth, lacking, with_granules}
 use Rattle.meaning.specs.Drop.{drop_one}
 use Rattle.meaning.specs.Refusal.{unplaced, carried, carried_two}
-use Rattle.meaning.specs.Refusals.{by_number, fault_numbers, disk_refusals, refusal, accepted, BadName, new_in_range, handle_refusals, not_for_reading, protected}
+use Rattle.meaning.specs.Refusals.{by_number, fault_numbers, disk_refusals, refusal, accepted, BadName, new_in_range, handle_refusals}
+use Rattle.meaning.specs.Refusals.{not_for_reading, protected}
 use Rattle.meaning.specs.Refusals.{bad_at, name_refusal, cannot_grow, check}
 use Rattle.meaning.specs.Handles.{good_length, in_range, fresh, no_handle, moved_to}
 use Rattle.meaning.specs.LookUp.{slot_of, candidates, carries, compared_in, named, look_up, missing}

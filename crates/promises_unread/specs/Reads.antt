@@ -25,7 +25,8 @@ use Rattle.meaning.specs.Chain.{chain_from, chain, owned, files, place, granule_
 use Rattle.meaning.specs.Consistent.{length_holds, hit_holds, name_holds, pairs_hold, follows_by, link_holds_by, runs_hold, gat_holds, size_holds}
 use Rattle.meaning.specs.Consistent.{met, directory_taken, count_holds, consistent}
 use Rattle.meaning.specs.Fault.{used_extension, hands_on, ends, bad_entry, walk_from, walk, walked, met_from, file_of, good_extension, hit_fault, name_fault}
-use Rattle.meaning.specs.Fault.{duplicate_fault, chain_fault, run_fault, gat_fault, shared_fault, chain_whole, size_fault, directory_fault, fault_at, lowest, fault}
+use Rattle.meaning.specs.Fault.{duplicate_fault, chain_fault, run_fault, gat_fault, shared_fault, chain_whole, size_fault, directory_fault, fault_at}
+use Rattle.meaning.specs.Fault.{lowest, fault}
 use Rattle.meaning.specs.Refusal.{unplaced, placed, carried}
 use Rattle.meaning.specs.Refusals.{by_number, fault_numbers, check}
 use Rattle.meaning.specs.Free.{free_granules, kept, permitted, free_slot, free_slots, lowest_free, longest_free}
@@ -600,7 +601,8 @@ module _ (u : Kinds) (g : Geometry) (d d' : List ℕ) (a : ReadAlike u g d d') w
       onward : T (hands_on g d s) ⊎ T (ends g d s) → eqb (marker g d s) 0xfe ≡ true → T (hands_on g d s)
       onward (inl h) e = h
       onward (inr h) e =
-          let z : marker g d s ≡ 0xfe = eqb→eq _ _ (Members.true-T {b = eqb (marker g d s) 0xfe} e) in absurd (omega (arith, z, (LawsKinds.ends-says g d s h).1))
+          let z : marker g d s ≡ 0xfe = eqb→eq _ _ (Members.true-T {b = eqb (marker g d s) 0xfe} e) in
+          absurd (omega (arith, z, (LawsKinds.ends-says g d s h).1))
 
       into : (b : Bool) → eqb (marker g d s) 0xfe ≡ b → In x (cond b (chain_from g d n (link g d s)) [])
           → (In (link g d s) (walk g d p) → In x (chain_from g d n (link g d s)) → In x (walk g d p)) → In x (walk g d p)

@@ -16,7 +16,8 @@ use Rattle.meaning.specs.declared.Geometry.{Geometry}
 use Rattle.meaning.specs.declared.NewFile.{NewFile}
 use Rattle.meaning.specs.declared.Refusal.{Refusal}
 use Rattle.drives.specs.Pair.{Pair, pair, geometry, image, leaving, no_such_drive, on_drive, of_both, tested, answered}
-use Rattle.drives.specs.ByName.{looked_up_on, opened_on, created_on, not_looked_up, not_opened, not_created, by_name, look_up_on, lacks, searched, passed_over, takes}
+use Rattle.drives.specs.ByName.{looked_up_on, opened_on, created_on, not_looked_up, not_opened, not_created, by_name, look_up_on, lacks, searched}
+use Rattle.drives.specs.ByName.{passed_over, takes}
 use Rattle.drives.specs.ByName.{look_up, open_on, open_file, create_on, create}
 use Rattle.drives.specs.ByHandle.{unheld, part_on, no_part, changing}
 use Rattle.drives.specs.ByHandle.{read_record, read_sector, write_record, allot, trim, kill}
