@@ -1,17 +1,17 @@
 -- The tests of HIT bytes and names, and the pass over all slots.
 use mathlib.Core.Path.{◌≡◌, refl, sym, ap, ap₂, ◌∙◌}
-use mathlib.Core.List.{List, [], ◌∷◌, ◌++◌}
+use mathlib.Core.List.{List, ◌∷◌}
 use mathlib.Core.Bool.{Bool, true, false, not, cond, ◌&&◌, beq}
 use Prim.Native.Nat.{ℕ, ◌+◌, ◌-◌, ◌/◌, ◌≤◌, ◌<◌}
 use native.Mathlib.Omega.{arith}
 use lib.Dec.{T, eqb, ltb, ltb→lt, lt→ltb}
 use borrow.Author.Tests.{eq-eqb, ne_eqb}
 use Rattle.meaning.specs.Lists.{count, every, some, keep, same}
-use Rattle.meaning.specs.Layout.{granules, fits_geometry, taken, is_slot, slots, directory_sectors, granule_sectors, round_up}
+use Rattle.meaning.specs.Layout.{granules, taken, is_slot, slots, directory_sectors, granule_sectors, round_up}
 use Rattle.lists.specs.Sizes
 use Rattle.meaning.specs.Entries.{in_use_primary, name_of}
 use Rattle.meaning.specs.Chain.{files}
-use Rattle.meaning.specs.Consistent.{length_holds, directory_taken, consistent}
+use Rattle.meaning.specs.Consistent.{length_holds, directory_taken}
 use Rattle.meaning.specs.Refusal.{unplaced, placed}
 use Rattle.meaning.specs.Fault.{fault_at, lowest, fault}
 use Rattle.meaning.specs.declared.Geometry.{Geometry}
@@ -129,12 +129,14 @@ module _ (g : Geometry) (d : List ℕ) where
       b → directory_taken g d ≡ b
   taken-by e f h = ap₂ (λ (x y : ℕ). every (taken g d) (count x y)) (sym e) (sym f) ∙ h
 
-  pub clear-no : {a n : ℕ} → a ≡ g.start / granule_sectors g → n ≡ round_up (directory_sectors g d) (granule_sectors g) → every (taken g d) (count a n) ≡ false →
+  pub clear-no : {a n : ℕ} → a ≡ g.start / granule_sectors g → n ≡ round_up (directory_sectors g d) (granule_sectors g) → every (taken g d) (count a
+      n) ≡ false →
       unplaced 30 ≡ after_slots g d
   unfolding after_slots
   clear-no e f h = sym (ap {B = Refusal} (λ (b : Bool). cond b (unplaced 0) (unplaced 30)) (taken-by e f h))
 
-  pub clear-yes : {a n : ℕ} → a ≡ g.start / granule_sectors g → n ≡ round_up (directory_sectors g d) (granule_sectors g) → every (taken g d) (count a n) ≡ true →
+  pub clear-yes : {a n : ℕ} → a ≡ g.start / granule_sectors g → n ≡ round_up (directory_sectors g d) (granule_sectors g) → every (taken g d) (count a
+      n) ≡ true →
       unplaced 0 ≡ after_slots g d
   unfolding after_slots
   clear-yes e f h = sym (ap {B = Refusal} (λ (b : Bool). cond b (unplaced 0) (unplaced 30)) (taken-by e f h))

@@ -1,5 +1,6 @@
 // The fault of a disk (02): what is inconsistent, and where. It is looked for only where the fast check says no.
 #![tactic(auto)]
+
 ghost use Rattle.std.specs.Prelude.{◌≡◌, true, false, ◌+◌, ◌*◌, ◌<◌, length};
 ghost use Rattle.meaning.specs.Lists.{count, some};
 ghost use Rattle.meaning.specs.Layout.{slots};

@@ -1,0 +1,31 @@
+use Rattle.fault_kinds.proofs.Noting.{walking_start, leading-start}
+use mathlib.Core.Path.{◌∙◌}
+use native.Mathlib.Omega.{arith}
+use Rattle.fault_diagnosis.specs.Told.{after_slots}
+use Rattle.fault_diagnosis.proofs.AllSlots.{all_slots, slot-found, slot-clear, slots-done}
+use Rattle.fault_diagnosis.proofs.slots_fault.Goals as goal
+
+pub note_files-requires : goal.note_files-requires
+note_files-requires c = let p = c.requires in (p, walking_start _ _)
+
+pub note_goods-requires : goal.note_goods-requires
+note_goods-requires c = let p = c.requires in (p, c.note_files.ensures, leading-start _ _)
+
+pub loop-s-init : goal.loop-s-init
+loop-s-init c = let a = c.args in all_slots a.g a.image.now (after_slots a.g a.image.now)
+
+pub fault_in-n-requires : goal.fault_in-n-requires
+fault_in-n-requires c = let note-goods = c.note_goods in let note-files = c.note_files in let runs-clear = c.runs_clear-runs in
+    let names-clear = c.names_clear-names in let p = c.requires in (p, names-clear.ensures, runs-clear.ensures, note-files.ensures, note-goods.ensures)
+
+pub returns-then-n-ne0 : goal.returns-then-n-ne0
+returns-then-n-ne0 c = let loop-test = c.loop-s-test in let l = c.loop-s in slot-found _ _ _ _ _ l.invariant c.fault_in-n.ensures loop-test.true c.if-n-ne0.true
+
+pub loop-s-smaller : goal.loop-s-smaller
+loop-s-smaller c = omega arith
+
+pub loop-s-preserved : goal.loop-s-preserved
+loop-s-preserved c = let loop-test = c.loop-s-test in let l = c.loop-s in slot-clear _ _ _ _ _ l.invariant c.fault_in-n.ensures loop-test.true c.if-n-ne0.false
+
+pub returns : goal.returns
+returns c = c.after_slots.ensures ∙ slots-done _ _ _ _ c.loop-s.invariant c.loop-s-test.false
