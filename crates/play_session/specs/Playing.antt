@@ -18,7 +18,7 @@ use Rattle.meaning.specs.declared.Geometry.{Geometry}
 use Rattle.meaning.specs.declared.Handle.{Handle}
 use Rattle.meaning.specs.declared.NewFile.{NewFile}
 use Rattle.meaning.specs.declared.Mode.TheVariants.{Sequential, Random}
-use Rattle.play_trace.specs.Reading.{Reading, Trace, read_trace, tell, steps_of, names_of}
+use Rattle.play_trace.specs.Reading.{read_trace, tell, steps_of, names_of}
 use Rattle.play_trace.specs.declared.Call.{Call}
 use Rattle.play_trace.specs.declared.Call.TheVariants.{Create, SequentialWrite, RandomWrite, Allot, Trim, Kill, Read}
 use Rattle.play_trace.specs.declared.Step.{Step}
