@@ -1,10 +1,9 @@
 -- Laws of one call of the trace: a refused open, and each call behind an open that was accepted.
-use mathlib.Core.Path.{◌≡◌, refl, sym, ap, ◌∙◌}
-use mathlib.Core.Bool.{Bool, true, false, cond}
+use mathlib.Core.Path.{◌≡◌, sym, ap, ◌∙◌}
+use mathlib.Core.Bool.{false}
 use mathlib.Core.List.{List}
 use Prim.Native.Nat.{ℕ}
-use lib.Dec.{eqb}
-use borrow.Author.Tests.{eq-eqb, ne_eqb}
+use borrow.Author.Tests.{ne_eqb}
 use Rattle.meaning.specs.Open.{open'}
 use Rattle.meaning.specs.Create.{create}
 use Rattle.meaning.specs.Read.{read_record}

@@ -2,6 +2,7 @@
 // checked once, before the first of them: a call leaves a consistent disk consistent (promises: EveryCall), so that what the check answered is what
 // it would answer before each call after it.
 #![tactic(auto)]
+
 ghost use Rattle.std.specs.Prelude.{◌≡◌, false, ◌≤◌, length, replicate};
 ghost use Rattle.meaning.specs.Refusals.{check};
 ghost use Rattle.meaning.specs.Handles.{moved_to};
