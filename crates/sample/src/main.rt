@@ -1,5 +1,6 @@
 // The worked listing: its disk made through the calls, and the listing written. A refusal is told and ends the run.
 #![tactic(auto)]
+
 ghost use Rattle.std.specs.Prelude.{◌≤◌, length};
 
 use meaning::{Geometry, Handle, Mode, NewFile};

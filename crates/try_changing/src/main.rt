@@ -1,6 +1,7 @@
 // The calls that change a disk, with every refusal number that each can give. A line tells the call and its number; a number that is not
 // the one that 01's table gives is marked. (The calls that look: look_at_disks.)
 #![tactic(auto)]
+
 use meaning::{Geometry, Handle, Mode, NewFile};
 
 // A disk of so many blocks and units, its directory at a sector; code 0 stands for "no password".

@@ -1,6 +1,7 @@
 // The check on small disks, good and damaged: one damage for each clause of "A consistent disk". Each line tells what was done, what the
 // check answers and, where there is one, the slot of the fault; a wrong answer is marked.
 #![tactic(auto)]
+
 ghost use Rattle.std.specs.Prelude.{◌<◌};
 
 use meaning::Geometry;

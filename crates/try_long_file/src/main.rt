@@ -2,6 +2,7 @@
 // killed. What the directory should hold is written out beside each call, byte for byte; each step compares all ten sectors with it,
 // and tells the number of the call and the directory's bytes.
 #![tactic(auto)]
+
 ghost use Rattle.std.specs.Prelude.{◌<◌, ◌≤◌, length};
 
 use meaning::{Geometry, Handle, Mode, NewFile};

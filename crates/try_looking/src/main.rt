@@ -1,6 +1,7 @@
 // The calls that look, on a small disk. Each line tells what was asked, the number and what came back; every refusal number that a call can
 // give occurs.
 #![tactic(auto)]
+
 use meaning::{Geometry, Handle};
 
 // Where the entry of slot 3 stands: in directory sector 2 + 3, and the directory starts at sector 0.
