@@ -33,7 +33,7 @@ fn main() {
     let library = dir.join("libgenie.a");
     let Ok(content) = std::fs::read(&library) else {
         println!(
-            "cargo::error=no archive to compare with at {}: `rt staticlib genie` writes it",
+            "cargo::error=no archive to compare with at {}: `make -C host/c archive` writes it",
             library.display()
         );
         return;

@@ -12,7 +12,7 @@ fn main() {
     let library = dir.join("libgenie.a");
     let Ok(content) = std::fs::read(&library) else {
         println!("cargo::error=the archive of the proved library is not at {}", library.display());
-        println!("cargo::error=build it by `rt staticlib genie` in the repository's root, or name its folder in GENIE_LIB_DIR");
+        println!("cargo::error=build it by `make -C host/c archive` in the repository's root, or name its folder in GENIE_LIB_DIR");
         println!("cargo::error=without the feature `archive` and GENIE_LIB_DIR no archive is needed: rustc compiles the source");
         return;
     };

@@ -28,13 +28,7 @@ pub struct Export {
 
 /// Leaves the contracts out of the text of the file that `path` names.
 pub fn erase(path: &str, text: &str) -> Result<Erased, String> {
-    let mut file = File {
-        path,
-        text,
-        at: 0,
-        lines: text.split('\n').map(|_| true).collect(),
-        exports: Vec::new(),
-    };
+    let mut file = File { path, text, at: 0, lines: text.split('\n').map(|_| true).collect(), exports: Vec::new() };
     file.items(None)?;
     let (mut left, mut left_out) = (Vec::new(), Vec::new());
     for (number, line) in text.split('\n').enumerate() {
@@ -517,8 +511,12 @@ pub fn stands_on(path: &str, text: &str, top: &str) -> Result<Vec<Listed>, Strin
         }
         let place = format!("{path}:{}", number + 1);
         let (name, uses) = match line.split_once(':') {
-            Some((name, uses)) => (name.trim().trim_end_matches(" staticlib"), uses.split_whitespace().map(str::to_string).collect()),
-            None => return Err(format!("{place}: a line is `NAME: CRATE CRATE ..` or `NAME staticlib: CRATE CRATE ..`")),
+            Some((name, uses)) => {
+                (name.trim().trim_end_matches(" staticlib"), uses.split_whitespace().map(str::to_string).collect())
+            }
+            None => {
+                return Err(format!("{place}: a line is `NAME: CRATE CRATE ..` or `NAME staticlib: CRATE CRATE ..`"))
+            }
         };
         if name.is_empty() || !name.chars().all(is_word) || listed.iter().any(|old: &Listed| old.name == name) {
             return Err(format!("{place}: the name {name:?} is none, or stands twice"));

@@ -92,7 +92,8 @@ fn only_contracts_are_left_out() {
                 open = depth(&line);
             } else {
                 let ghost = line.starts_with("ghost use ") && line.ends_with(';');
-                let told = ["#![tactic(", "#[tactic(", "#[cycle("].iter().any(|word| line.trim_start().starts_with(word));
+                let told =
+                    ["#![tactic(", "#[tactic(", "#[cycle("].iter().any(|word| line.trim_start().starts_with(word));
                 assert!(ghost || told && line.ends_with(")]") || line == "#[unsafe(no_mangle)]", "{place}");
             }
             last = number;
