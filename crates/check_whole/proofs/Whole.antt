@@ -13,9 +13,11 @@ use Rattle.meaning.specs.Bits.{bit}
 use Rattle.meaning.specs.Layout.{granules, taken, field, hit, slots, is_slot, directory_granules, granule_bytes, granule_sectors}
 use Rattle.lists.specs.Sizes
 use Rattle.meaning.specs.Names.{hash}
-use Rattle.meaning.specs.Entries.{in_use, in_use_primary, system, runs, run_start, run_length, run_granules, entry_granules, name_of, sector_count, end_byte, size_of}
+use Rattle.meaning.specs.Entries.{in_use, in_use_primary, system, runs, run_start, run_length, run_granules, entry_granules, name_of, sector_count, end_byte}
+use Rattle.meaning.specs.Entries.{size_of}
 use Rattle.meaning.specs.Chain.{chain, owned, files}
-use Rattle.meaning.specs.Consistent.{length_holds, hit_holds, runs_hold, gat_holds, entry_holds, slot_holds, file_holds, names_differ, met, consistent, count_holds}
+use Rattle.meaning.specs.Consistent.{length_holds, hit_holds, runs_hold, gat_holds, entry_holds, slot_holds, file_holds, names_differ, met, consistent}
+use Rattle.meaning.specs.Consistent.{count_holds}
 use Rattle.meaning.specs.declared.Geometry.{Geometry}
 use Rattle.layout.specs.Room.{Room}
 use Rattle.lists.specs.Tests.{all-at, all_yes, all-no, all_none, any_last, not_yes, every-count, not-both}

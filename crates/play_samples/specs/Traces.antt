@@ -2,7 +2,8 @@
 use Rattle.std.specs.Prelude.{◌≡◌, refl, false, List, [], ◌∷◌, ◌++◌, ℕ, ◌+◌, take, drop, replicate}
 use Rattle.play_trace.specs.Bits.{bits_of, number, bits, field, bytes_of}
 use Rattle.play_trace.specs.Steps.{Field, fields, width_of, start_of, uses, allowed, good, first_bad, call_of}
-use Rattle.play_trace.specs.Reading.{Trace, Reading, reads, bad_at, fields_from, names_from, numbers_at, read_calls, read_bits, read_trace, well_with, fault_at, tell}
+use Rattle.play_trace.specs.Reading.{Trace, Reading, reads, bad_at, fields_from, names_from, numbers_at, read_calls, read_bits, read_trace, well_with}
+use Rattle.play_trace.specs.Reading.{fault_at, tell}
 use Rattle.play_trace.specs.Packing.{field_bits, steps_bits, names_bits, pack_bits, pack}
 use Rattle.play_trace.specs.declared.CreateWith.{CreateWith}
 use Rattle.play_trace.specs.declared.WriteWith.{WriteWith}
@@ -12,7 +13,8 @@ use Rattle.play_trace.specs.declared.Step.{Step}
 
 -- every definition of a trace that is shut, opened by one name
 unfoldable pub seen : ℕ
-unfolding bits_of number bits field bytes_of uses allowed good first_bad call_of fields_from names_from numbers_at read_calls read_bits read_trace tell field_bits
+unfolding bits_of number bits field bytes_of uses allowed good first_bad call_of fields_from names_from numbers_at read_calls read_bits read_trace tell
+    field_bits
     steps_bits names_bits pack_bits pack
 seen = 0
 

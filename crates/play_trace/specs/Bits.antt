@@ -1,6 +1,7 @@
 -- Bits, most significant first; and the numbers that they make.
 use Rattle.std.specs.Prelude.{◌≡◌, refl, List, [], ◌∷◌, ◌++◌, ℕ, zero, suc, ◌+◌, ◌*◌, ◌/◌, ◌%◌, ◌^◌, ◌≤◌, ◌<◌, length, take, drop}
-use Rattle.std.proofs.Common.{sym, ap, ◌∙◌, append_assoc, mul_left_comm, mul-le-mul_right, lt_of_lt_of_le, arith, length-append, length-take, length-drop, take-append-drop, length-take-le, take_at, drop-drop}
+use Rattle.std.proofs.Common.{sym, ap, ◌∙◌, append_assoc, mul_left_comm, mul-le-mul_right, lt_of_lt_of_le, arith, length-append, length-take, length-drop}
+use Rattle.std.proofs.Common.{take-append-drop, length-take-le, take_at, drop-drop}
 use Rattle.std.proofs.Math.Nat.{pow-succ', pow-le-pow_right}
 use Rattle.std.proofs.Math.Seq.{drop-nil, drop-append-add}
 

@@ -85,7 +85,8 @@ next : (d : List ℕ) (k l : ℕ) → l ≡ k + 1 → k < length d → drop k d 
 next d k l e h = rw (e, add-one) (drop-cons d k 0 h)
 
 seven : (d : List ℕ) (at : ℕ) → at + 7 ≤ length d
-    → drop at d ≡ get_or d at 0 ∷ get_or d (at + 1) 0 ∷ get_or d (at + 2) 0 ∷ get_or d (at + 3) 0 ∷ get_or d (at + 4) 0 ∷ get_or d (at + 5) 0 ∷ get_or d (at + 6) 0 ∷ drop
+    → drop at d ≡ get_or d at 0 ∷ get_or d (at + 1) 0 ∷ get_or d (at + 2) 0 ∷ get_or d (at + 3) 0 ∷ get_or d (at + 4) 0 ∷ get_or d (at + 5) 0
+    ∷ get_or d (at + 6) 0 ∷ drop
     (at + 7) d
 seven d at h =
     rw (
@@ -103,11 +104,13 @@ field-byte d at o w = sym (field-drop (bits d) (8 * at) o w) ∙ ap (λ (x : Lis
 
 pub numbers-of-bytes : (d : List ℕ) (at : ℕ) → at + 7 ≤ length d → ((i : ℕ) → get_or d i 0 < 256)
     → numbers_at (bits d) (8 * at)
-    ≡ numbers_of_bytes (get_or d at 0) (get_or d (at + 1) 0) (get_or d (at + 2) 0) (get_or d (at + 3) 0) (get_or d (at + 4) 0) (get_or d (at + 5) 0) (get_or d (at + 6) 0)
+    ≡ numbers_of_bytes (get_or d at 0) (get_or d (at + 1) 0) (get_or d (at + 2) 0) (get_or d (at + 3) 0) (get_or d (at + 4) 0) (get_or d (at + 5) 0)
+    (get_or d (at + 6) 0)
 unfolding numbers_at
 numbers-of-bytes d at h s =
     let g : (o w : ℕ) → field (bits d) (8 * at + o) w ≡ field
-    (bits (get_or d at 0 ∷ get_or d (at + 1) 0 ∷ get_or d (at + 2) 0 ∷ get_or d (at + 3) 0 ∷ get_or d (at + 4) 0 ∷ get_or d (at + 5) 0 ∷ get_or d (at + 6) 0 ∷ drop
+    (bits (get_or d at 0 ∷ get_or d (at + 1) 0 ∷ get_or d (at + 2) 0 ∷ get_or d (at + 3) 0 ∷ get_or d (at + 4) 0 ∷ get_or d (at + 5) 0
+    ∷ get_or d (at + 6) 0 ∷ drop
     (at + 7) d)) o w
     = λ o w. field-byte d at o w ∙ ap (λ (x : List ℕ). field (bits x) o w) (seven d at h) in
     let p0 = g 0 3 ∙ at-0 _ _ _ _ _ _ _ _ (s at) in

@@ -9,9 +9,11 @@ use Rattle.std.proofs.Math.ListN.{length, take, drop}
 use Rattle.std.proofs.Math.Seq.{take-add, drop-drop}
 use Rattle.laws.specs.Bytes.{Small, small-none, small-cons, small_bytes}
 use Rattle.play_trace.specs.Bits.{bits_of, bits, field, AreBits, field-small, field-bits}
-use Rattle.play_trace.specs.Steps.{Field, the_operation, the_file, the_position, the_length, the_fill, the_zero, fields, width_of, start_of, value_of, good, first_bad}
+use Rattle.play_trace.specs.Steps.{Field, the_operation, the_file, the_position, the_length, the_fill, the_zero, fields, width_of, start_of, value_of, good}
+use Rattle.play_trace.specs.Steps.{first_bad}
 use Rattle.play_trace.specs.Steps.{numbers_of, end_mark, step_of}
-use Rattle.play_trace.specs.Reading.{Trace, Reading, reads, bad_at, on_read, fields_from, names_from, call_start, numbers_at, read_calls, read_bits, whole_calls}
+use Rattle.play_trace.specs.Reading.{Trace, Reading, reads, bad_at, on_read, fields_from, names_from, call_start, numbers_at, read_calls, read_bits}
+use Rattle.play_trace.specs.Reading.{whole_calls}
 use Rattle.play_trace.specs.Packing.{call_bits, steps_bits, names_bits, pack_bits, AreNames, StepFits, StepsFit, TraceFits, IsReading}
 use Rattle.play_trace.specs.declared.Step.{Step}
 use Rattle.play_trace.specs.declared.Numbers.{Numbers}
@@ -41,7 +43,8 @@ module _ (bs : List ℕ) (h : AreBits bs) (n : ℕ) where
   split p l =
       sym (take-append-drop 56 (drop p bs)) ∙ (λ i. are-those bs p h l i ++ drop-drop 56 p bs i)
 
-  packed-end : (i : ℕ) → call_start n i + 56 ≤ length bs → 56 ≤ first_bad n (numbers_at bs (call_start n i)) fields → (numbers_at bs (call_start n i)).operation ≡ 0
+  packed-end : (i : ℕ) → call_start n i + 56 ≤ length bs → 56 ≤ first_bad n (numbers_at bs (call_start n i)) fields
+      → (numbers_at bs (call_start n i)).operation ≡ 0
       → Packed bs n (call_start n i) []
   unfolding steps_bits
   packed-end i l a b =
@@ -144,7 +147,8 @@ module _ (bs : List ℕ) (h : AreBits bs) where
       let d : bs ≡ take 8 bs ++ (take (88 * n) (drop 8 bs) ++ drop (88 * n) (drop 8 bs))
       = sym (take-append-drop 8 bs) ∙ ap (λ (x : List ℕ). take 8 bs ++ x) (sym (take-append-drop (88 * n) (drop 8 bs))) in
       let g : bs ≡ bits_of 8 n ++ (names_bits (names_from bs 8 n) ++ (steps_bits ss ++ r.later)) = d ∙ (λ i. sym a i ++ (sym b i ++ c i)) in
-      let k : bits_of 8 n ++ (names_bits (names_from bs 8 n) ++ (steps_bits ss ++ r.later)) ≡ (bits_of 8 n ++ (names_bits (names_from bs 8 n) ++ steps_bits ss)) ++ r.later
+      let k : bits_of 8 n ++ (names_bits (names_from bs 8 n) ++ (steps_bits ss ++ r.later))
+      ≡ (bits_of 8 n ++ (names_bits (names_from bs 8 n) ++ steps_bits ss)) ++ r.later
       = sym (append_assoc (bits_of 8 n) (names_bits (names_from bs 8 n) ++ steps_bits ss) r.later ∙ ap (λ (x : List ℕ). bits_of 8 n ++ x)
       (append_assoc (names_bits (names_from bs 8 n)) (steps_bits ss) r.later)) in
       let m : (bits_of 8 n ++ (names_bits (names_from bs 8 n) ++ steps_bits ss)) ++ r.later ≡
@@ -167,7 +171,8 @@ module _ (bs : List ℕ) (h : AreBits bs) where
       inside : (n k : ℕ) → k ≡ whole_calls bs n → call_start n 0 ≤ length bs → call_start n 0 + 56 * k ≤ length bs
       inside n k e l = omega arith
 
-      inner : (n : ℕ) → NamesThere bs n → (c : Reading (List Step)) → read_calls bs n (whole_calls bs n) 0 ≡ c → on_read (with_names (names_from bs 8 n)) c ≡ reads
+      inner : (n : ℕ) → NamesThere bs n → (c : Reading (List Step)) → read_calls bs n (whole_calls bs n) 0 ≡ c
+          → on_read (with_names (names_from bs 8 n)) c ≡ reads
           t →
           IsReading bs t
       inner n o (bad_at p) q e = absurd (bad-reads e)

@@ -7,7 +7,8 @@ use native.Mathlib.Omega.{arith}
 use Rattle.std.proofs.Math.ListN.{length}
 use Rattle.std.proofs.lemmas.Bool.{eqb-false}
 use Rattle.play_trace.specs.Bits.{bits_of, number, field, AreBits, length-bits_of, there_and_back, field-front, field_past, field-small, field-bits}
-use Rattle.play_trace.specs.Steps.{Field, the_operation, the_file, the_position, the_length, the_fill, the_zero, fields, width_of, start_of, value_of, uses, allowed}
+use Rattle.play_trace.specs.Steps.{Field, the_operation, the_file, the_position, the_length, the_fill, the_zero, fields, width_of, start_of, value_of, uses}
+use Rattle.play_trace.specs.Steps.{allowed}
 use Rattle.play_trace.specs.Steps.{good, first_bad, numbers_for, numbers_of, end_mark, call_of, step_of}
 use Rattle.play_trace.specs.Reading.{numbers_at}
 use Rattle.play_trace.specs.Packing.{field_bits, call_bits}
@@ -164,7 +165,8 @@ module _ (n : ℕ) (m : Numbers) where
       let g = first_good the_zero [] e.1 in
       pick a.0 b.0 c.0 d.0 e.0 g.0 f
     where
-      pick : good n m the_operation ≡ true → good n m the_file ≡ true → good n m the_position ≡ true → good n m the_length ≡ true → good n m the_fill ≡ true → good
+      pick : good n m the_operation ≡ true → good n m the_file ≡ true → good n m the_position ≡ true → good n m the_length ≡ true
+          → good n m the_fill ≡ true → good
           n m the_zero ≡ true
           → (f : Field) → good n m f ≡ true
       pick a b c d e g the_operation = a

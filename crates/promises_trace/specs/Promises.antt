@@ -198,7 +198,8 @@ pub in-range : (d : List ℕ) (t : Trace) → read_trace d ≡ reads t → Trace
 unfolding read_trace
 in-range d t e = (sound (bits d) (bits-bits d) t e).in_range
 
-pub step_fits : (d : List ℕ) (i : ℕ) → i < length (steps_of (read_trace d)) → StepFits (length (names_of (read_trace d))) (get_or (steps_of (read_trace d)) i no_step)
+pub step_fits : (d : List ℕ) (i : ℕ) → i < length (steps_of (read_trace d))
+    → StepFits (length (names_of (read_trace d))) (get_or (steps_of (read_trace d)) i no_step)
 step_fits d i h = by (read_trace d) refl h
   where
     by : (r : Reading Trace) → read_trace d ≡ r → i < length (steps_of r) → StepFits (length (names_of r)) (get_or (steps_of r) i no_step)

@@ -3,9 +3,11 @@ use Rattle.std.specs.Prelude.{◌≡◌, refl, List, [], ◌∷◌, ◌++◌, �
 use Rattle.std.proofs.Common.{sym, ap, ◌∙◌, append_assoc, arith, length-append}
 use Rattle.laws.specs.Bytes.{Small, bytes_small, small-rest}
 use Rattle.play_trace.specs.Bits.{bits_of, bits, field, length-bits_of, length-bits, there_and_back, field-front, field_past}
-use Rattle.play_trace.specs.Steps.{Field, the_operation, the_file, the_position, the_length, the_fill, the_zero, fields, width_of, value_of, first_bad, numbers_for}
+use Rattle.play_trace.specs.Steps.{Field, the_operation, the_file, the_position, the_length, the_fill, the_zero, fields, width_of, value_of, first_bad}
+use Rattle.play_trace.specs.Steps.{numbers_for}
 use Rattle.play_trace.specs.Steps.{numbers_of, end_mark, step_of}
-use Rattle.play_trace.specs.Reading.{Trace, Reading, reads, bad_at, on_read, fields_from, names_from, call_start, numbers_at, read_calls, read_bits, whole_calls}
+use Rattle.play_trace.specs.Reading.{Trace, Reading, reads, bad_at, on_read, fields_from, names_from, call_start, numbers_at, read_calls, read_bits}
+use Rattle.play_trace.specs.Reading.{whole_calls}
 use Rattle.play_trace.specs.Packing.{call_bits, steps_bits, names_bits, pack_bits, AreNames, StepFits, StepsFit, TraceFits, IsReading}
 use Rattle.play_trace.specs.declared.Step.{Step}
 use Rattle.play_trace.specs.declared.Numbers.{Numbers}
@@ -56,7 +58,8 @@ bytes-there [] pre later p l h = refl
 bytes-there (b ∷ x) pre later p l h =
     let c : pre ++ ((bits_of 8 b ++ bits x) ++ later) ≡ pre ++ (bits_of 8 b ++ (bits x ++ later)) = ap (λ (y : List ℕ). pre ++ y)
     (append_assoc (bits_of 8 b) (bits x) later) in
-    let d : pre ++ ((bits_of 8 b ++ bits x) ++ later) ≡ (pre ++ bits_of 8 b) ++ (bits x ++ later) = c ∙ sym (append_assoc pre (bits_of 8 b) (bits x ++ later)) in
+    let d : pre ++ ((bits_of 8 b ++ bits x) ++ later) ≡ (pre ++ bits_of 8 b) ++ (bits x ++ later) = c
+    ∙ sym (append_assoc pre (bits_of 8 b) (bits x ++ later)) in
     let f : field (pre ++ ((bits_of 8 b ++ bits x) ++ later)) p 8 ≡ b
     = ap (λ (y : List ℕ). field y p 8) c ∙ field_at pre _ p 8 l ∙ field-front (bits_of 8 b) _ 8 (length-bits_of 8 b) ∙ there_and_back 8 b (h.below 0) in
     let g : length (pre ++ bits_of 8 b) ≡ p + 8 = length-append pre (bits_of 8 b) ∙ omega (arith, length-bits_of 8 b) in
@@ -92,13 +95,15 @@ complete t later h =
     let n = length ns in
     let bs = (bits_of 8 n ++ (names_bits ns ++ steps_bits ss)) ++ later in
     let c : bs ≡ bits_of 8 n ++ (names_bits ns ++ (steps_bits ss ++ later))
-    = append_assoc (bits_of 8 n) (names_bits ns ++ steps_bits ss) later ∙ ap (λ (x : List ℕ). bits_of 8 n ++ x) (append_assoc (names_bits ns) (steps_bits ss) later)
+    = append_assoc (bits_of 8 n) (names_bits ns ++ steps_bits ss) later
+    ∙ ap (λ (x : List ℕ). bits_of 8 n ++ x) (append_assoc (names_bits ns) (steps_bits ss) later)
     in
     let d : bs ≡ (bits_of 8 n ++ names_bits ns) ++ (steps_bits ss ++ later) = c ∙ sym (append_assoc (bits_of 8 n) (names_bits ns) (steps_bits ss ++ later)) in
     let l : length (bits_of 8 n ++ names_bits ns) ≡ call_start n 0
     = length-append (bits_of 8 n) (names_bits ns) ∙ omega (arith, length-bits_of 8 n, length-names_bits ns h.names) in
     let w : length bs ≡ call_start n 0 + (56 * (length ss + 1) + length later)
-    = ap length d ∙ length-append (bits_of 8 n ++ names_bits ns) (steps_bits ss ++ later) ∙ omega (arith, l, length-append (steps_bits ss) later, length-steps ss)
+    = ap length d ∙ length-append (bits_of 8 n ++ names_bits ns) (steps_bits ss ++ later)
+    ∙ omega (arith, l, length-append (steps_bits ss) later, length-steps ss)
     in
     let f : field bs 0 8 ≡ n
     = ap (λ (x : List ℕ). field x 0 8) c ∙ field-front (bits_of 8 n) _ 8 (length-bits_of 8 n) ∙ there_and_back 8 n (omega (arith, h.few)) in
