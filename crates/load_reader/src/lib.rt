@@ -1,5 +1,6 @@
 // The reader of a program file (02 §12): "a reader that keeps hold of the lent image and its place in the file".
 #![tactic(auto)]
+
 ghost use Rattle.std.specs.Prelude.{◌≡◌};
 ghost use Rattle.load_reader.specs.Held.{held, asked, moved_by};
 
