@@ -8,7 +8,7 @@ use native.Mathlib.Decide.{ℕ_discrete}
 use lib.Dec.{eqb}
 use lib.ListN.{length}
 use borrow.Author.Tests.{eq-eqb, ne_eqb}
-use Rattle.meaning.specs.Lists.{count, keep, has, all, first_or}
+use Rattle.meaning.specs.Lists.{count, has, all, first_or}
 use Rattle.lists.specs.Members.{length-count}
 use Rattle.lists.specs.Counting.{keep-under}
 use Rattle.meaning.specs.Layout.{slots, is_slot, hit}

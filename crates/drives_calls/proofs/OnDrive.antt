@@ -18,7 +18,7 @@ use Rattle.meaning.specs.declared.Answer.{Answer}
 use Rattle.meaning.specs.declared.Part.{Part}
 use Rattle.meaning.specs.declared.Refusal.{Refusal}
 use Rattle.read.specs.Part as one
-use Rattle.drives.specs.Pair.{Pair, image, geometry, no_such_drive, on_drive, naming', fault_drive, drive_of, answered}
+use Rattle.drives.specs.Pair.{Pair, image, no_such_drive, on_drive, fault_drive, drive_of, answered}
 use Rattle.drives.specs.ByHandle.{unheld, part_on, no_part, changing, sector_on, read_sector}
 use Rattle.drives.specs.declared.DriveHandle.{DriveHandle}
 use Rattle.drives.specs.declared.DriveAnswer.{DriveAnswer}

@@ -1,6 +1,7 @@
 // The calls on two drives (02 §9), one function a call. A call with a number, as every handle has, is the call on that drive; one without tests
 // both disks, then looks for the name on drive 0 and on drive 1. None asks anything of its caller.
 #![tactic(auto)]
+
 ghost use Rattle.std.specs.Prelude.{◌≡◌, ◌+◌};
 ghost use Rattle.meaning.specs.Refusals.{check};
 ghost use Rattle.drives.specs.Pair.{pair};
