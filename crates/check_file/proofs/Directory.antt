@@ -135,8 +135,8 @@ module _ (g : Geometry) (d : List ℕ) (s : ℕ) where
       go false = omega arith
 
   -- the walk refused the file
-  pub file-refused : {m m' m'' met met' met'' : List ℕ} {r : Bool} → FileSeen g d s 1 m m' met met' r → r ≡ false → FileSeen g d s (least_of g d s) m
-      m'' met met''
+  pub file-refused : {m m' m'' met met' met'' : List ℕ} {r : Bool} → FileSeen g d s 1 m m' met met' r → r ≡ false
+      → FileSeen g d s (least_of g d s) m m'' met met''
       false
   file-refused {m} {m'} {m''} {met} {met'} {met''} {r} f e =
       record {

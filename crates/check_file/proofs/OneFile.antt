@@ -76,8 +76,8 @@ module _ (g : Geometry) (d : List ℕ) (s : ℕ) where
   file-walk {m} {m'} {met} {met'} {f} {h} {n} {left} {k} {r} room e b i a c q ds l w =
       let len : left ≡ length (slots g d) = l ∙ ap (λ (j : ℕ). 8 * (j - 2)) ds ∙ sym (slots_length g d room.ten room.thirty) in
       let w' : Walked g d 1 (sector_count g d s) 0 (chain_holds g d (hit g d s) (length (slots g d)) s) (chain g d s) m m' met met' r = rw (c, i, len) at w in
-      let fit : file_fits g d s ≡ all (chain_holds g d (hit g d s) (length (slots g d)) s ∷ leb (sector_count g d s) (granule_sectors g * length
-      (owned g d s)) ∷
+      let fit : file_fits g d s ≡ all (chain_holds g d (hit g d s) (length (slots g d)) s
+      ∷ leb (sector_count g d s) (granule_sectors g * length (owned g d s)) ∷
       [])
       = all_yes (not-no (ap (bit 5) (sym e) ∙ bit-off 5 f b)) _ ∙ all_yes (ap (λ (j : ℕ). name_fits g d j s) (sym i) ∙ a) _
       ∙ all_yes (ap (λ (j : ℕ). count_holds j (end_byte g d s)) (sym c) ∙ q) _ in

@@ -201,8 +201,8 @@ lies {block} {at} unit n b h k l = record { from = let z = b.low in omega arith;
     go (inr e) = omega arith
 
 -- some granule of the stretch is shut
-pub stretch-no : (m m' : List ℕ) (at a n o : ℕ) {x : ℕ} → x ≡ eight_of m at → ((j : ℕ) → get_or m j 0 < 256) → InWindow at a n o → n < 64 → bit_and x
-    (coded n o)
+pub stretch-no : (m m' : List ℕ) (at a n o : ℕ) {x : ℕ} → x ≡ eight_of m at → ((j : ℕ) → get_or m j 0 < 256) → InWindow at a n o → n < 64
+    → bit_and x (coded n o)
     ≢ 0
     → TakesStretch 8 m a n m' false
 stretch-no m m' at a n o {x} x-is b l h e =
@@ -219,8 +219,8 @@ stretch-no m m' at a n o {x} x-is b l h e =
         ap (digit (eight_of m at)) (let z : o + i ≡ a + i - 8 * at = omega arith in z) ∙ sym (stretch-shut m at (a + i) b (omega arith) (omega arith))
 
 -- all are open, and the mask is stored
-pub stretch-yes : (m m' : List ℕ) (at a n o : ℕ) {x : ℕ} → x ≡ eight_of m at → ((j : ℕ) → get_or m j 0 < 256) → InWindow at a n o → n < 64 → bit_and
-    x (coded n o)
+pub stretch-yes : (m m' : List ℕ) (at a n o : ℕ) {x : ℕ} → x ≡ eight_of m at → ((j : ℕ) → get_or m j 0 < 256) → InWindow at a n o → n < 64
+    → bit_and x (coded n o)
     ≡ 0
     → PutsEight m at (bit_or x (coded n o)) m' → TakesStretch 8 m a n m' true
 stretch-yes m m' at a n o {x} x-is b l h e s =

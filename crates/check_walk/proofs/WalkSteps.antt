@@ -139,8 +139,8 @@ module _ (g : Geometry) (d : List ℕ) (s : ℕ) where
       let a : allows m₀ least 0 (first_runs k ++ run_granules g d s k) ≡ true
       = allows-append m₀ least 0 (first_runs k) (run_granules g d s k) ∙ rw (i.allowed, ← i.map) t.allowed in
       let l : length (first_runs k ++ run_granules g d s k) ≡ length (first_runs k) + run_length g d s k
-      = length-append (first_runs k) (run_granules g d s k) ∙ ap (λ (j : ℕ). length (first_runs k) + j) (length-count (run_start g d s k) (run_length
-      g d s k)) in
+      = length-append (first_runs k) (run_granules g d s k)
+      ∙ ap (λ (j : ℕ). length (first_runs k) + j) (length-count (run_start g d s k) (run_length g d s k)) in
       let q = w.small in
       let v = i.few in
       record {

@@ -10,8 +10,8 @@ use Rattle.check_map.specs.Owners.{Window}
 use Rattle.check_map.specs.Eight.{Spans}
 use Rattle.check_walk.proofs.WalkSteps.{on-map}
 
-pub directory-on-map : (g : Geometry) (d : List ℕ) → Room g d → g.start / granule_sectors g + round_up (directory_sectors g d) (granule_sectors g) ≤
-    most_blocks *
+pub directory-on-map : (g : Geometry) (d : List ℕ) → Room g d
+    → g.start / granule_sectors g + round_up (directory_sectors g d) (granule_sectors g) ≤ most_blocks *
     g.units
 directory-on-map g d room = on-map g d (g.start / granule_sectors g + round_up (directory_sectors g d) (granule_sectors g)) room
     (Sizes.touched-inside (Sizes.sectors-pos g) g.start (directory_sectors g d) (granules g) room.directory)

@@ -57,8 +57,8 @@ module _ (g : Geometry) (d : List ℕ) (least-low : (s : ℕ) → 1 ≤ least_of
       Members.both-T (λ t. Members.true-T (fit-there m met a (Members.T_true t))) (λ t. Members.true-T (fit-there m met (turned a) (Members.T_true t)))
 
 -- what is marked does not hang on the order
-pub marked-alike : (met : List ℕ) (f : ℕ → List ℕ) {xs ys : List ℕ} → SameSlots xs ys → (n : ℕ) → n < length met → get_or (marked met 0 (each f xs))
-    n 0 ≡ get_or
+pub marked-alike : (met : List ℕ) (f : ℕ → List ℕ) {xs ys : List ℕ} → SameSlots xs ys → (n : ℕ) → n < length met
+    → get_or (marked met 0 (each f xs)) n 0 ≡ get_or
     (marked met 0 (each f ys)) n 0
 marked-alike met f {xs} {ys} a n l = go (Members.in? n (each f xs))
   where

@@ -161,8 +161,8 @@ column-none {s} h = ap (λ (n : ℕ). by32 n s) (let z : (287 - s) / 32 ≡ 0 = 
 
 module _ (g : Geometry) (d : List ℕ) where
   fit_append : (xs ys m met : List ℕ)
-      → slots_fit g d m met (xs ++ ys) ≡ (slots_fit g d m met xs && slots_fit g d (marked m 0 (each (owned_of g d) xs)) (marked met 0 (each (chain_of
-      g d) xs)) ys)
+      → slots_fit g d m met (xs ++ ys) ≡ (slots_fit g d m met xs && slots_fit g d (marked m 0 (each (owned_of g d) xs))
+      (marked met 0 (each (chain_of g d) xs)) ys)
   unfolding slots_fit
   fit_append xs ys m met =
       all_three (every_append (slot_fits g d) xs ys) (opens-append (least_of g d) (owned_of g d) xs ys m) (opens-append one (chain_of g d) xs ys met)

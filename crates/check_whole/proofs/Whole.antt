@@ -113,14 +113,14 @@ module _ (g : Geometry) (d : List ℕ) where
       beq-true false = refl
 
   -- the size fits exactly if the sector count does
-  size-le : (p : ℕ) → Bytes d → count_holds (sector_count g d p) (end_byte g d p) ≡ true → sector_count g d p ≤ granule_sectors g * length (owned g d
-      p) → size_of g
+  size-le : (p : ℕ) → Bytes d → count_holds (sector_count g d p) (end_byte g d p) ≡ true → sector_count g d p ≤ granule_sectors g * length (owned g d p)
+      → size_of g
       d p ≤ granule_bytes g * length (owned g d p)
   unfolding size_of field
   size-le p b c l = go (eqb (end_byte g d p) 0) refl
     where
-      go : (t : Bool) → eqb (end_byte g d p) 0 ≡ t → cond (eqb (end_byte g d p) 0) (256 * sector_count g d p) (256 * (sector_count g d p - 1) +
-          end_byte g d p) ≤
+      go : (t : Bool) → eqb (end_byte g d p) 0 ≡ t
+          → cond (eqb (end_byte g d p) 0) (256 * sector_count g d p) (256 * (sector_count g d p - 1) + end_byte g d p) ≤
           granule_bytes g * length (owned g d p)
       go true e = rw e (omega (arith, ap (λ (x : ℕ). x * length (owned g d p)) (Sizes.bytes-are g)))
       go false e =
@@ -131,8 +131,8 @@ module _ (g : Geometry) (d : List ℕ) where
           entry_place : ℕ
           entry_place = 256 * (g.start + 2 + p % 32) + 32 * (p / 32)
 
-  le-size : (p : ℕ) → (sector_count g d p ≡ 0 → end_byte g d p ≡ 0) → size_of g d p ≤ granule_bytes g * length (owned g d p) → sector_count g d p ≤
-      granule_sectors
+  le-size : (p : ℕ) → (sector_count g d p ≡ 0 → end_byte g d p ≡ 0) → size_of g d p ≤ granule_bytes g * length (owned g d p)
+      → sector_count g d p ≤ granule_sectors
       g * length (owned g d p)
   unfolding size_of
   le-size p c l = go (eqb (end_byte g d p) 0) refl
@@ -424,7 +424,7 @@ module _ (g : Geometry) (d : List ℕ) (room : Room g d) {m m₂ seen met₂ : L
   pub way-met : {q : Bool} → r ≡ true → q ≡ every (met_at met₂) (slots g d) → q ≡ false → false ≡ consistent g d
   way-met e f n = no_met g d m room w open' seen copy (sym (met-is e f) ∙ n)
 
-  pub way-names : {q n : Bool} → r ≡ true → q ≡ every (met_at met₂) (slots g d) → q ≡ true → length_holds g d ≡ true → Bytes d → n ≡ names_differ g d
-      (files g d)
+  pub way-names : {q n : Bool} → r ≡ true → q ≡ every (met_at met₂) (slots g d) → q ≡ true → length_holds g d ≡ true → Bytes d
+      → n ≡ names_differ g d (files g d)
       → n ≡ consistent g d
   way-names e f n l y h = h ∙ by_names g d m room w open' seen copy l y (sym fit_is ∙ e) (sym (met-is e f) ∙ n)

@@ -129,14 +129,14 @@ module _ (g : Geometry) (d : List ℕ) where
       b → directory_taken g d ≡ b
   taken-by e f h = ap₂ (λ (x y : ℕ). every (taken g d) (count x y)) (sym e) (sym f) ∙ h
 
-  pub clear-no : {a n : ℕ} → a ≡ g.start / granule_sectors g → n ≡ round_up (directory_sectors g d) (granule_sectors g) → every (taken g d) (count a
-      n) ≡ false →
+  pub clear-no : {a n : ℕ} → a ≡ g.start / granule_sectors g → n ≡ round_up (directory_sectors g d) (granule_sectors g)
+      → every (taken g d) (count a n) ≡ false →
       unplaced 30 ≡ after_slots g d
   unfolding after_slots
   clear-no e f h = sym (ap {B = Refusal} (λ (b : Bool). cond b (unplaced 0) (unplaced 30)) (taken-by e f h))
 
-  pub clear-yes : {a n : ℕ} → a ≡ g.start / granule_sectors g → n ≡ round_up (directory_sectors g d) (granule_sectors g) → every (taken g d) (count a
-      n) ≡ true →
+  pub clear-yes : {a n : ℕ} → a ≡ g.start / granule_sectors g → n ≡ round_up (directory_sectors g d) (granule_sectors g)
+      → every (taken g d) (count a n) ≡ true →
       unplaced 0 ≡ after_slots g d
   unfolding after_slots
   clear-yes e f h = sym (ap {B = Refusal} (λ (b : Bool). cond b (unplaced 0) (unplaced 30)) (taken-by e f h))

@@ -72,8 +72,8 @@ notes-in v (s ∷ ss) m x p l e h = by (ℕ_discrete x s) (λ k. notes-in v ss (
   where
     by : Dec (x ≡ s) → (get_or (noted m v s) x 0 ≡ 0 → has ss x ≡ true → get_or (notes (noted m v s) v ss) x 0 ≡ v) → get_or (notes (noted m v s) v ss) x 0 ≡ v
     by (yes q) r =
-        let y : get_or (noted m v s) x 0 ≡ v = ap (λ (k : ℕ). get_or (noted m v s) k 0) q ∙ noted_here m v s (rw q at l) (ap (λ (k : ℕ). get_or m k
-        0) (sym q) ∙ e)
+        let y : get_or (noted m v s) x 0 ≡ v = ap (λ (k : ℕ). get_or (noted m v s) k 0) q
+        ∙ noted_here m v s (rw q at l) (ap (λ (k : ℕ). get_or m k 0) (sym q) ∙ e)
         in
         notes-full v ss (noted m v s) x (λ z. let w : ⊥ = omega arith in w) ∙ y
     by (no q) r = r (noted_other m v s x q ∙ e) (ap (λ (b : Bool). b || has ss x) (sym (ne_eqb x s q)) ∙ h)
@@ -83,8 +83,8 @@ unfolding notes
 notes-out v [] m x h = refl
 notes-out v (s ∷ ss) m x h = by (ℕ_discrete x s) (λ k. notes-out v ss (noted m v s) x k)
   where
-    by : Dec (x ≡ s) → (has ss x ≡ false → get_or (notes (noted m v s) v ss) x 0 ≡ get_or (noted m v s) x 0) → get_or (notes (noted m v s) v ss) x 0
-        ≡ get_or m x 0
+    by : Dec (x ≡ s) → (has ss x ≡ false → get_or (notes (noted m v s) v ss) x 0 ≡ get_or (noted m v s) x 0)
+        → get_or (notes (noted m v s) v ss) x 0 ≡ get_or m x 0
     by (yes q) r = absurd (let z : true ≡ false = sym (ap (λ (b : Bool). b || has ss x) (eq-eqb x s q)) ∙ h in let w : ◌≡◌ {A = ℕ} 0 1 = cc in let y : ⊥ =
         omega arith in y)
     by (no q) r = r (ap (λ (b : Bool). b || has ss x) (sym (ne_eqb x s q)) ∙ h) ∙ noted_other m v s x q

@@ -8,7 +8,8 @@ use lib.ListN.{length}
 use borrow.Author.Tests.{eq-eqb, ne_eqb, lt-ltb, le-ltb}
 use Rattle.play_trace.specs.Bits.{bits, length-bits}
 use Rattle.play_trace.specs.Steps.{fields, first_bad, step_of}
-use Rattle.play_trace.specs.Reading.{Reading, reads, bad_at, on_read, call_start, numbers_at, read_calls, whole_calls, well_with, tell_from, calls_told}
+use Rattle.play_trace.specs.Reading.{Reading, reads, bad_at, on_read, call_start, numbers_at, read_calls, whole_calls, well_with, tell_from}
+use Rattle.play_trace.specs.Reading.{calls_told}
 use Rattle.play_trace.specs.declared.Step.{Step}
 use Rattle.play_trace.specs.declared.Numbers.{Numbers}
 
@@ -26,8 +27,8 @@ module _ (bs : List ℕ) (n k i : ℕ) where
   unfolding read_calls
   calls-bad h = rw (lt-ltb _ _ h)
 
-  pub calls-end : 56 ≤ first_bad n (numbers_at bs (call_start n i)) fields → (numbers_at bs (call_start n i)).operation ≡ 0 → read_calls bs n (suc k)
-      i ≡ reads []
+  pub calls-end : 56 ≤ first_bad n (numbers_at bs (call_start n i)) fields → (numbers_at bs (call_start n i)).operation ≡ 0
+      → read_calls bs n (suc k) i ≡ reads []
   unfolding read_calls
   calls-end h e = rw (le-ltb _ _ h, eq-eqb _ _ e)
 

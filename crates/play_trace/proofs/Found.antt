@@ -127,8 +127,8 @@ byte-there : (d : List ℕ) (q k : ℕ) → q ≡ 8 * k → k < length d → get
 byte-there d q k e h s = sym (ap (λ (x : ℕ). field (bits d) x 8) e ∙ byte-field d k h s)
 
 pub name-bytes : (d : List ℕ) (at : ℕ) → at + 11 ≤ length d → ((i : ℕ) → get_or d i 0 < 256) → (p : ℕ) → p ≡ 8 * at
-    → get_or d at 0 ∷ get_or d (at + 1) 0 ∷ get_or d (at + 2) 0 ∷ get_or d (at + 3) 0 ∷ get_or d (at + 4) 0 ∷ get_or d (at + 5) 0 ∷ get_or d (at + 6)
-    0 ∷ get_or d (at + 7) 0
+    → get_or d at 0 ∷ get_or d (at + 1) 0 ∷ get_or d (at + 2) 0 ∷ get_or d (at + 3) 0 ∷ get_or d (at + 4) 0 ∷ get_or d (at + 5) 0 ∷ get_or d (at + 6) 0
+    ∷ get_or d (at + 7) 0
     ∷ get_or d (at + 8) 0 ∷ get_or d (at + 9) 0 ∷ get_or d (at + 10) 0 ∷ [] ≡ fields_from (bits d) p 8 11
 unfolding fields_from
 name-bytes d at h s p e =

@@ -109,8 +109,8 @@ module _ (bs : List ℕ) where
     pub turn : Turn (read_calls bs n (suc k) i)
     turn = go (order (first_bad n (numbers_at bs (call_start n i)) fields) 56) (look (numbers_at bs (call_start n i)).operation 0)
       where
-        go : Order (first_bad n (numbers_at bs (call_start n i)) fields) 56 → Alike (numbers_at bs (call_start n i)).operation 0 → Turn (read_calls
-            bs n (suc k) i)
+        go : Order (first_bad n (numbers_at bs (call_start n i)) fields) 56 → Alike (numbers_at bs (call_start n i)).operation 0
+            → Turn (read_calls bs n (suc k) i)
         go (below h) a = subst (λ (r : Reading (List Step)). Turn r) (sym (calls-bad bs n k i h)) (bad h)
         go (reaches h) (alike e) = subst (λ (r : Reading (List Step)). Turn r) (sym (calls-end bs n k i h e)) (end h e)
         go (reaches h) (unlike e) = subst (λ (r : Reading (List Step)). Turn r) (sym (calls-on bs n k i h e)) (on h e)
