@@ -7,7 +7,6 @@ use Rattle.meaning.specs.declared.NewFile.{NewFile}
 use Rattle.drives.specs.Pair.{Pair, fault_drive}
 use Rattle.drives.specs.ByName.{look_up, open_file, create}
 use Rattle.drives.specs.ByHandle.{read_record, read_sector, write_record, allot, trim, kill}
-use Rattle.drives.specs.declared.DriveHandle.{DriveHandle}
 use Rattle.drives.specs.declared.DriveAnswer.{DriveAnswer}
 use Rattle.drives.specs.declared.DriveCreated.{DriveCreated}
 use Rattle.drives.specs.declared.DriveLookedUp.{DriveLookedUp}

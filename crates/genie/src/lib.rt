@@ -1,5 +1,6 @@
 // The exported functions, for hosts in C and Rust: numbers and byte slices only (host/include/genie.h). Each tests what it is lent.
 #![tactic(auto)]
+
 ghost use Rattle.std.specs.Prelude.{◌≡◌};
 ghost use Rattle.genie_codec.specs.Words.{geometry};
 ghost use Rattle.genie.specs.Exports.{new_file, too_short, exported_name, exported_check, exported_look_up, exported_open, exported_create};
