@@ -52,8 +52,8 @@ module _ (a : List ℕ) (p : ℕ) (b : List ℕ) (q : ℕ) where
               (ltb (get_or a (p + i) 0) (get_or b (q + i) 0))) (eq-eqb _ _ e);
         }
 
-    pub alike-stop : (get_or a (p + i) 0 ≡ get_or b (q + i) 0 → ⊥) → ltb (get_or a (p + i) 0) (get_or b (q + i) 0) ≡ before (take 11 (drop p a))
-        (take 11 (drop q b))
+    pub alike-stop : (get_or a (p + i) 0 ≡ get_or b (q + i) 0 → ⊥)
+        → ltb (get_or a (p + i) 0) (get_or b (q + i) 0) ≡ before (take 11 (drop p a)) (take 11 (drop q b))
     alike-stop e =
         sym (here ∙ ap (λ (t : Bool). cond t (before (take (11 - (i + 1)) (drop (p + (i + 1)) a)) (take (11 - (i + 1)) (drop (q + (i + 1)) b)))
         (ltb (get_or a (p + i) 0) (get_or b (q + i) 0))) (ne_eqb _ _ e))

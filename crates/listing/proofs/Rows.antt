@@ -29,8 +29,8 @@ module _ (g : Geometry) (d : List ℕ) where
   -- a row in two parts: the name, then the numbers
   pub row_put : (t : List ℕ) (to s : ℕ) {t₁ t₂ name : List ℕ} {size granules : ℕ} → name ≡ name_of g d s → size ≡ size_of g d s → granules ≡ length
       (owned g d s)
-      → t₁ ≡ sets t to name → t₂ ≡ sets t₁ (to + 11) (low_first 1 s ++ (low_first 4 size ++ (low_first 2 granules ++ (0 ∷ 0 ∷ [])))) → t₂ ≡ sets t to
-      (row g d s)
+      → t₁ ≡ sets t to name → t₂ ≡ sets t₁ (to + 11) (low_first 1 s ++ (low_first 4 size ++ (low_first 2 granules ++ (0 ∷ 0 ∷ []))))
+      → t₂ ≡ sets t to (row g d s)
   unfolding row tell_first name_of
   row_put t to s {t₁} {t₂} {name} {size} {granules} n z o e f =
       f ∙ ap (λ (r : List ℕ). sets r (to + 11) (low_first 1 s ++ (low_first 4 size ++ (low_first 2 granules ++ (0 ∷ 0 ∷ []))))) (e ∙ ap (sets t to) n)
