@@ -95,8 +95,8 @@ module _ (g : Geometry) (d : List ℕ) where
       let a : T (not (extension g d p)) = w.first in
       let b : T (well_formed (name_of g d p)) = w.name in
       let z : T (not (bit 5 (field g d p 0))) = w.zero' in
-      let es : T (every (killed_entry_holds g d) (chain g d p)) = Members.all-every (killed_entry_holds g d) (chain g d p) (λ x i. says-killed x (w.entries x i))
-      in
+      let es : T (every (killed_entry_holds g d) (chain g d p))
+      = Members.all-every (killed_entry_holds g d) (chain g d p) (λ x i. says-killed x (w.entries x i)) in
       let os : T (distinct (chain g d p)) = Members.says-distinct w.once in
       let ss : T (distinct (owned g d p)) = Members.says-distinct w.single in
       let n : T (not (eqb (sector_count g d p) 0) || eqb (end_byte g d p) 0) = Members.or-if (eqb (sector_count g d p) 0) _

@@ -247,7 +247,8 @@ module _ (g : Geometry) (d : List ℕ) (c : Sound g d) (k : Places.Fits g d) (p 
         go (yes q) = rw q block₂
         go (no q) = fixed₂ (0x16 + 2 * x) (omega arith) (omega arith) ∙ entry.pairs x b (omega (arith, runs₂, runs-r))
 
-    pub emptied-shrinks : Shrink.Shrinks g d (free_granule g (set_field g (set_field g d (tail g p d) (0x16 + 2 * (runs g d (tail g p d) - 1)) 0xff) (tail g p d)
+    pub emptied-shrinks : Shrink.Shrinks g d
+        (free_granule g (set_field g (set_field g d (tail g p d) (0x16 + 2 * (runs g d (tail g p d) - 1)) 0xff) (tail g p d)
         (0x17 + 2 * (runs g d (tail g p d) - 1)) 0xff) m) p m
     unfolding words
     emptied-shrinks = record {

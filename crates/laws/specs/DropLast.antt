@@ -99,8 +99,8 @@ module _ (g : Geometry) (d : List ℕ) (c : Sound g d) (k : Places.Fits g d) (p 
   unfolding words
   q₄-length = simp length-set
 
-  cut-byte : (i : ℕ) → i ≢ gat_at g m → ((j : ℕ) → j < 32 → i ≢ entry_at g e + j) → i ≢ hit_at g e → i ≢ entry_at g b + 0x1e → i ≢ entry_at g b + 0x1f → byte d' i
-      ≡ byte d i
+  cut-byte : (i : ℕ) → i ≢ gat_at g m → ((j : ℕ) → j < 32 → i ≢ entry_at g e + j) → i ≢ hit_at g e → i ≢ entry_at g b + 0x1e → i ≢ entry_at g b + 0x1f
+      → byte d' i ≡ byte d i
   unfolding words
   cut-byte i z o a u v = get_or-set_other q₄ (gat_at g m) i _ 0 z ∙ q₄-byte i o a u v
 

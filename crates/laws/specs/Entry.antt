@@ -14,7 +14,8 @@ use Rattle.meaning.specs.Lists.{count, every, has, all}
 use Rattle.meaning.specs.Layout.{is_slot, taken, field, granules, hit, directory_granules, granule_bytes}
 use Rattle.meaning.specs.Bits.{bit}
 use Rattle.meaning.specs.Names.{hash, well_formed}
-use Rattle.meaning.specs.Entries.{system, block, marker, link, runs, runs_from, first_unit, run_start, run_length, entry_granules, name_of, size_of, sector_count}
+use Rattle.meaning.specs.Entries.{system, block, marker, link, runs, runs_from, first_unit, run_start, run_length, entry_granules, name_of, size_of}
+use Rattle.meaning.specs.Entries.{sector_count}
 use Rattle.meaning.specs.Entries.{end_byte}
 use Rattle.meaning.specs.Chain.{chain, chain_from, owned}
 use Rattle.meaning.specs.Consistent.{pairs_hold, follows_by, link_holds_by, runs_hold, gat_holds, entry_holds, hash_holds, off_directory, file_holds}

@@ -7,7 +7,8 @@ use mathlib.Core.List.{List, [], ◌∷◌}
 use Rattle.meaning.specs.Layout.{is_slot, slots}
 use Rattle.meaning.specs.Consistent.{length_holds, directory_taken}
 use Rattle.meaning.specs.Refusals.{first}
-use Rattle.meaning.specs.Fault.{hit_fault, name_fault, duplicate_fault, chain_fault, run_fault, gat_fault, shared_fault, size_fault, directory_fault, fault_at, lowest}
+use Rattle.meaning.specs.Fault.{hit_fault, name_fault, duplicate_fault, chain_fault, run_fault, gat_fault, shared_fault, size_fault, directory_fault}
+use Rattle.meaning.specs.Fault.{fault_at, lowest}
 use Rattle.meaning.specs.Fault.{fault}
 use Rattle.meaning.specs.Refusal.{unplaced}
 use Rattle.meaning.specs.declared.Geometry.{Geometry}

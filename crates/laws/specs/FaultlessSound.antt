@@ -15,7 +15,8 @@ use Rattle.meaning.specs.Entries.{in_use, extension, in_use_primary, system, mar
 use Rattle.meaning.specs.Chain.{chain, chain_from, owned, files}
 use Rattle.meaning.specs.Consistent.{hit_holds, pairs_hold, link_holds_by, runs_hold, gat_holds, entry_holds, name_holds, hash_holds, size_holds, off_directory}
 use Rattle.meaning.specs.Consistent.{file_holds}
-use Rattle.meaning.specs.Fault.{hands_on, ends, walk, good_extension, file_of, chain_whole, hit_fault, name_fault, duplicate_fault, chain_fault, run_fault, gat_fault}
+use Rattle.meaning.specs.Fault.{hands_on, ends, walk, good_extension, file_of, chain_whole, hit_fault, name_fault, duplicate_fault, chain_fault}
+use Rattle.meaning.specs.Fault.{run_fault, gat_fault}
 use Rattle.meaning.specs.Fault.{shared_fault, size_fault, directory_fault}
 use Rattle.meaning.specs.declared.Geometry.{Geometry}
 use Rattle.lists.specs.Members

@@ -62,8 +62,8 @@ module _ (g : Geometry) (d d' : List ℕ) where
   cond-eq true xs ys f = f (λ x i. i)
   cond-eq false xs ys f = refl
 
-  pub chain_from-eq : (n s : ℕ) → ((x : ℕ) → Members.In x (chain_from g d n s) → (marker g d' x ≡ marker g d x) × (link g d' x ≡ link g d x)) → chain_from g d' n
-      s ≡ chain_from g d n s
+  pub chain_from-eq : (n s : ℕ) → ((x : ℕ) → Members.In x (chain_from g d n s) → (marker g d' x ≡ marker g d x) × (link g d' x ≡ link g d x))
+      → chain_from g d' n s ≡ chain_from g d n s
   unfolding chain_from
   chain_from-eq zero s a = refl
   chain_from-eq (suc n) s a =

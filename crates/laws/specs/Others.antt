@@ -36,7 +36,8 @@ get_or-in (x ∷ xs) (suc i) h = Members.In.there (get_or-in xs i (omega arith))
 pub place_in : (g : Geometry) (d : List ℕ) (p i : ℕ) → i < granule_bytes g * length (owned g d p) → In (place g d p i / granule_bytes g) (owned g d p)
 unfolding place
 place_in g d p i h =
-    let e : (granule_bytes g * get_or (owned g d p) (i / granule_bytes g) 0 + i % granule_bytes g) / granule_bytes g ≡ get_or (owned g d p) (i / granule_bytes g) 0 =
+    let e : (granule_bytes g * get_or (owned g d p) (i / granule_bytes g) 0 + i % granule_bytes g) / granule_bytes g
+    ≡ get_or (owned g d p) (i / granule_bytes g) 0 =
     Sizes.at_width _ _ (Sizes.split (Sizes.bytes_pos g) i).rest in
     rw e (get_or-in (owned g d p) (i / granule_bytes g) (Sizes.width-lt (Sizes.bytes_pos g) i _ h))
 

@@ -1,6 +1,7 @@
 -- Where things lie, as inequalities, and what a store leaves
 use Rattle.std.specs.Prelude.{◌≡◌, refl, ◌≢◌, ◌⊎◌, List, [], ◌∷◌, ℕ, zero, suc, ◌+◌, ◌*◌, ◌/◌, ◌%◌, ◌≤◌, ◌<◌, length, set, T, eqb, leb, ltb}
-use Rattle.std.proofs.Common.{ap, sym, ◌∙◌, inl, inr, arith, div-add-mod', div-lt_iff_lt-mul, add-zero, add-suc, suc-add, length-set, get_or-set_same, get_or-set_other, eqb→eq, ltb→lt, leb→le}
+use Rattle.std.proofs.Common.{ap, sym, ◌∙◌, inl, inr, arith, div-add-mod', div-lt_iff_lt-mul, add-zero, add-suc, suc-add, length-set, get_or-set_same}
+use Rattle.std.proofs.Common.{get_or-set_other, eqb→eq, ltb→lt, leb→le}
 use Rattle.std.proofs.Math.Decide.{ℕ_discrete, dec_lt}
 use Rattle.std.proofs.Math.Seq.{set_out}
 use Rattle.std.proofs.lemmas.List.Edits.{sets}

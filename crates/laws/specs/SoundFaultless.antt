@@ -12,7 +12,8 @@ use Rattle.meaning.specs.Names.{hash}
 use Rattle.meaning.specs.Entries.{in_use, extension, in_use_primary, system, marker, link, entry_granules, name_of}
 use Rattle.meaning.specs.Chain.{chain, chain_from, owned, files}
 use Rattle.meaning.specs.Consistent.{hit_holds, pairs_hold, runs_hold, gat_holds, entry_holds, name_holds, size_holds, file_holds}
-use Rattle.meaning.specs.Fault.{hands_on, ends, walk_from, walk, met_from, good_extension, file_of, chain_whole, hit_fault, name_fault, duplicate_fault, chain_fault}
+use Rattle.meaning.specs.Fault.{hands_on, ends, walk_from, walk, met_from, good_extension, file_of, chain_whole, hit_fault, name_fault}
+use Rattle.meaning.specs.Fault.{duplicate_fault, chain_fault}
 use Rattle.meaning.specs.Fault.{run_fault, gat_fault, shared_fault, size_fault, directory_fault}
 use Rattle.meaning.specs.declared.Geometry.{Geometry}
 use Rattle.lists.specs.Members

@@ -9,7 +9,8 @@ use Rattle.std.proofs.Math.ListN.{length-set}
 use Rattle.std.proofs.Math.Seq.{get_or-set_same, get_or-set_other}
 use Rattle.std.proofs.Math.Dec.{T, T_not, ltb→lt, leb→le}
 use Rattle.meaning.specs.Lists.{count, each}
-use Rattle.meaning.specs.Layout.{byte, is_slot, taken, take_granule, field, set_field, gat_at, hit_at, entry_at, granules, hit, directory_granules, directory_sectors}
+use Rattle.meaning.specs.Layout.{byte, is_slot, taken, take_granule, field, set_field, gat_at, hit_at, entry_at, granules, hit, directory_granules}
+use Rattle.meaning.specs.Layout.{directory_sectors}
 use Rattle.meaning.specs.Layout.{granule_bytes, above_ten, most_blocks}
 use Rattle.meaning.specs.Bits.{bit, digit}
 use Rattle.meaning.specs.Entries.{block, run_start, run_length, run_granules, runs, entry_granules}
@@ -81,8 +82,8 @@ module _ (v : ℕ) (bv : v < 2) (g : Geometry) (d : List ℕ) (c : Sound g d) (k
       go (inr h) = let b = s.sector in let q = s.low in let w = block-m in put_byte i (omega arith) (omega arith) (omega arith)
 
 -- the runs of an entry, the last one apart
-pub granules-snoc : (g : Geometry) (d : List ℕ) (s r : ℕ) → runs g d s ≡ suc r → entry_granules g d s ≡ each (run_granules g d s) (count 0 r) ++ run_granules g d
-    s r
+pub granules-snoc : (g : Geometry) (d : List ℕ) (s r : ℕ) → runs g d s ≡ suc r
+    → entry_granules g d s ≡ each (run_granules g d s) (count 0 r) ++ run_granules g d s r
 unfolding entry_granules
 granules-snoc g d s r e =
     rw e (ap (each (run_granules g d s)) (Members.count-snoc 0 r) ∙ Members.each_append (run_granules g d s) (count 0 r) ((0 + r) ∷ [])

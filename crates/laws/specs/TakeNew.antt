@@ -97,8 +97,8 @@ module _ (g : Geometry) (d : List ℕ) (c : Sound g d) (k : Places.Fits g d) (p 
       out (inl h) j b = omega arith
       out (inr h) j b = omega arith
 
-  ext-byte : (i : ℕ) → i ≢ gat_at g n → (i < entry_at g x) ⊎ (entry_at g x + 32 ≤ i) → i ≢ hit_at g x → i ≢ entry_at g e + 0x1e → i ≢ entry_at g e + 0x1f → byte d'
-      i ≡ byte d i
+  ext-byte : (i : ℕ) → i ≢ gat_at g n → (i < entry_at g x) ⊎ (entry_at g x + 32 ≤ i) → i ≢ hit_at g x → i ≢ entry_at g e + 0x1e → i ≢ entry_at g e + 0x1f
+      → byte d' i ≡ byte d i
   ext-byte i q o a b w = new-byte i q o ∙ H-byte i o a b w
 
   room : entry_at g x + 32 ≤ length d
@@ -115,8 +115,8 @@ module _ (g : Geometry) (d : List ℕ) (c : Sound g d) (k : Places.Fits g d) (p 
       go (yes a) = inl a
       go (no a) = let w = sx.low in inr (omega arith)
 
-  other-field : (y j : ℕ) → y < 256 → y ≢ x → j < 32 → entry_at g y + j ≢ entry_at g e + 0x1e → entry_at g y + j ≢ entry_at g e + 0x1f → field g d' y j ≡ field g
-      d y j
+  other-field : (y j : ℕ) → y < 256 → y ≢ x → j < 32 → entry_at g y + j ≢ entry_at g e + 0x1e → entry_at g y + j ≢ entry_at g e + 0x1f
+      → field g d' y j ≡ field g d y j
   unfolding words
   other-field y j h q b u v = let w = block-n in let s = sx.low in ext-byte (entry_at g y + j) (omega arith) (apart y j h q b) (omega arith) u v
 
@@ -162,8 +162,8 @@ module _ (g : Geometry) (d : List ℕ) (c : Sound g d) (k : Places.Fits g d) (p 
   new-marker : marker g d' e ≡ 0xfe
   unfolding words
   new-marker = link-byte 0x1e (omega arith)
-      ∙ get_or-set_other (set_field g d e 0x1e 0xfe) (entry_at g e + 0x1f) (entry_at g e + 0x1e) x 0 (omega arith) ∙ get_or-set_same d (entry_at g e + 0x1e) 0xfe 0
-      (omega (arith, room-e))
+      ∙ get_or-set_other (set_field g d e 0x1e 0xfe) (entry_at g e + 0x1f) (entry_at g e + 0x1e) x 0 (omega arith)
+      ∙ get_or-set_same d (entry_at g e + 0x1e) 0xfe 0 (omega (arith, room-e))
 
   new-link : link g d' e ≡ x
   unfolding words

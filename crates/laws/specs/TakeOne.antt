@@ -100,7 +100,8 @@ module _ (g : Geometry) (d : List ℕ) (c : Sound g d) (k : Places.Fits g d) (p 
     ap length (Extend.extends-chain g d d' c p f x n w) ∙ length-append (chain g d p) (x ∷ []),
   )
 
-  by-extension : (x : ℕ) → In x (free_slots g d) → T (is_slot g d x) → hit g d x ≡ 0 → runs g d e ≡ 4 → Took g d (with_pair g (with_extension g p d e x) x 0 n) p
+  by-extension : (x : ℕ) → In x (free_slots g d) → T (is_slot g d x) → hit g d x ≡ 0 → runs g d e ≡ 4
+      → Took g d (with_pair g (with_extension g p d e x) x 0 n) p
   unfolding words
   by-extension x i t z full =
       let d' = with_pair g (with_extension g p d e x) x 0 n in

@@ -155,8 +155,8 @@ module _ (g : Geometry) (d : List ℕ) where
   longer (suc n) zero s x h i = absurd (omega arith)
   longer (suc n) (suc m) s x h i = go (Members.in-cons i) (longer n m (link g d s) x (omega arith))
     where
-      into : (b : Bool) → In x (cond b (chain_from g d n (link g d s)) []) → (In x (chain_from g d n (link g d s)) → In x (chain_from g d m (link g d s))) → In x
-          (s ∷ cond b (chain_from g d m (link g d s)) [])
+      into : (b : Bool) → In x (cond b (chain_from g d n (link g d s)) []) → (In x (chain_from g d n (link g d s)) → In x (chain_from g d m (link g d s)))
+          → In x (s ∷ cond b (chain_from g d m (link g d s)) [])
       into true i r = Members.In.there (r i)
       into false i r = Members.none_in i
 

@@ -51,8 +51,8 @@ past e s xs q i = into (Members.in-cons i)
 module _ (g : Geometry) (d d' : List ℕ) (e b : ℕ) (me : marker g d e ≡ 0xff) (mb : marker g d b ≡ 0xfe) (lb : link g d b ≡ e) (mb' : marker g d' b ≡ 0xff)
     (b≢e : b ≢ e) where
   chain_from-cut : (n s : ℕ) → ((y : ℕ) → In y (chain_from g d n s) → y ≢ b → y ≢ e → (marker g d' y ≡ marker g d y) × (link g d' y ≡ link g d y))
-      → ((y : ℕ) → In y (chain_from g d n s) → marker g d y ≡ 0xfe → link g d y ≡ e → y ≡ b) → s ≢ e → In e (chain_from g d n s) → chain_from g d n s ≡ chain_from
-      g d' n s ++ (e ∷ [])
+      → ((y : ℕ) → In y (chain_from g d n s) → marker g d y ≡ 0xfe → link g d y ≡ e → y ≡ b) → s ≢ e → In e (chain_from g d n s)
+      → chain_from g d n s ≡ chain_from g d' n s ++ (e ∷ [])
   unfolding chain_from
   chain_from-cut zero s a o k i = Members.none_in i
   chain_from-cut (suc n) s a o k i = go (ℕ_discrete b s) (chain_from-cut n (link g d s))

@@ -16,7 +16,7 @@ use Rattle.meaning.specs.LookUp.{candidates, carries, named}
 use Rattle.meaning.specs.Read.{fetch}
 
 unfoldable pub words : Bool
-unfolding all any granules taken take_granule free_granule hit directory_sectors is_slot field set_field size_of length_holds hit_holds hash_holds name_holds pairs_hold
-    follows_by link_holds_by runs_hold gat_holds size_holds off_directory slot_holds file_holds kill_entry back_entry permitted free_slot lengthens in_range new_in_range
-    full admits fresh candidates carries named fetch
+unfolding all any granules taken take_granule free_granule hit directory_sectors is_slot field set_field size_of length_holds hit_holds hash_holds
+    name_holds pairs_hold follows_by link_holds_by runs_hold gat_holds size_holds off_directory slot_holds file_holds kill_entry back_entry permitted
+    free_slot lengthens in_range new_in_range full admits fresh candidates carries named fetch
 words = true

@@ -1,10 +1,13 @@
 -- What is known of the size of a granule. First the laws of any width w above 0: nothing here knows how many sectors a granule has. Then
 -- the facts of a geometry's granule by which these laws are used: no other law of a disk opens its definition.
 use Rattle.std.specs.Prelude.{ℕ, ◌+◌, ◌-◌, ◌*◌, ◌/◌, ◌%◌, ◌≤◌, ◌<◌, ◌≡◌, refl, ◌⊎◌, Bool, true, false, cond, eqb}
-use Rattle.std.proofs.Common.{ap, sym, ◌∙◌, inl, inr, eqb-true, arith, add-zero, mod-lt, div-lt_iff_lt-mul, le-div_iff_mul-le, mod-eq_of_lt, mul-le-mul, mul-le-mul_left, mul-pos}
-use Rattle.std.proofs.Math.Nat.{div-add-mod, mul-add-div, mul-add-mod_self_left, div-eq_of_lt, mul-sub, div-le_of_le-mul, le_of_mul-le-mul_left, lt_of_mul-lt-mul_left}
+use Rattle.std.proofs.Common.{ap, sym, ◌∙◌, inl, inr, eqb-true, arith, add-zero, mod-lt, div-lt_iff_lt-mul, le-div_iff_mul-le, mod-eq_of_lt}
+use Rattle.std.proofs.Common.{mul-le-mul, mul-le-mul_left, mul-pos}
+use Rattle.std.proofs.Math.Nat.{div-add-mod, mul-add-div, mul-add-mod_self_left, div-eq_of_lt, mul-sub, div-le_of_le-mul, le_of_mul-le-mul_left}
+use Rattle.std.proofs.Math.Nat.{lt_of_mul-lt-mul_left}
 use Rattle.meaning.specs.Lists.{has}
-use Rattle.meaning.specs.Layout.{granule_sizes, granule_sectors, granule_bytes, granules, sectors, most_granules, highest, sector_numbers, round_up, granules_for}
+use Rattle.meaning.specs.Layout.{granule_sizes, granule_sectors, granule_bytes, granules, sectors, most_granules, highest, sector_numbers, round_up}
+use Rattle.meaning.specs.Layout.{granules_for}
 use Rattle.meaning.specs.declared.Geometry.{Geometry}
 
 -- Any width ---------------------------------------------------------------------------------------------------------------

@@ -2,7 +2,8 @@
 use Rattle.std.specs.Prelude.{ℕ, ◌+◌, ◌-◌, List, [], ◌∷◌, ◌++◌, Bool, true, length, replicate, set}
 use Rattle.meaning.specs.Lists.{all, any, first_or, last_or}
 use Rattle.meaning.specs.Bits.{digit, put_digit}
-use Rattle.meaning.specs.Layout.{granule_sectors, granule_bytes, granules, fits_geometry, taken, take_granule, free_granule, hit, directory_sectors, is_slot, slots}
+use Rattle.meaning.specs.Layout.{granule_sectors, granule_bytes, granules, fits_geometry, taken, take_granule, free_granule, hit, directory_sectors}
+use Rattle.meaning.specs.Layout.{is_slot, slots}
 use Rattle.meaning.specs.Layout.{field, set_field}
 use Rattle.meaning.specs.Names.{well_formed, fold, blanks, good, bad_place, hash}
 use Rattle.meaning.specs.Entries.{name_of, size_of, runs_from, runs, entry_granules}
@@ -16,7 +17,8 @@ use Rattle.meaning.specs.Refusals.{first, new_in_range, check}
 use Rattle.meaning.specs.Handles.{good_length, in_range, fresh}
 use Rattle.meaning.specs.Refusal.{beside, beside_two}
 use Rattle.meaning.specs.Fault.{used_extension, hands_on, ends, bad_entry, walk_from, walk, walked, met_from, file_of, good_extension, hit_fault, name_fault}
-use Rattle.meaning.specs.Fault.{duplicate_fault, chain_fault, run_fault, gat_fault, shared_fault, chain_whole, size_fault, directory_fault, fault_at, lowest, fault}
+use Rattle.meaning.specs.Fault.{duplicate_fault, chain_fault, run_fault, gat_fault, shared_fault, chain_whole, size_fault, directory_fault, fault_at}
+use Rattle.meaning.specs.Fault.{lowest, fault}
 use Rattle.meaning.specs.LookUp.{candidates, carries, compared_in, named, look_up}
 use Rattle.meaning.specs.Open.{full, admits, open'}
 use Rattle.meaning.specs.Create.{create}
@@ -174,13 +176,13 @@ one_pair =
 
 -- Every definition that is shut, opened by one name: `unfolding opened` computes through all of them.
 unfoldable pub opened : Bool
-unfolding all any first_or last_or digit put_digit granule_sectors granule_bytes granules fits_geometry taken take_granule free_granule hit directory_sectors is_slot
-    slots field set_field well_formed fold blanks good bad_place hash name_of size_of runs_from runs entry_granules chain_from chain owned files place length_holds
-    hit_holds hash_holds name_holds pairs_hold follows_by link_holds_by runs_hold gat_holds size_holds off_directory slot_holds file_holds names_differ met consistent
-    used_extension hands_on ends bad_entry walk_from walk walked met_from file_of good_extension hit_fault name_fault duplicate_fault chain_fault run_fault gat_fault
-    shared_fault chain_whole size_fault directory_fault fault_at lowest fault beside beside_two free_granules kept permitted free_slot free_slots and_then or_else fails
-    disk_or lengthens extended take_one grow_by growth unhooked drop_one first good_length in_range new_in_range check fresh candidates carries compared_in named
-    look_up full admits open' create fetch read_of read_sector store size_after write_of allot trim kill_entry kill whole back_entry bring_back shown listed tell_first
-    list counts stretch longest_in low_end free_space digits slashed line listing file_at found_in plain born_as overwritten written_to allotted_to trimmed back_as
-    with' reserved
+unfolding all any first_or last_or digit put_digit granule_sectors granule_bytes granules fits_geometry taken take_granule free_granule hit
+    directory_sectors is_slot slots field set_field well_formed fold blanks good bad_place hash name_of size_of runs_from runs entry_granules chain_from
+    chain owned files place length_holds hit_holds hash_holds name_holds pairs_hold follows_by link_holds_by runs_hold gat_holds size_holds off_directory
+    slot_holds file_holds names_differ met consistent used_extension hands_on ends bad_entry walk_from walk walked met_from file_of good_extension hit_fault
+    name_fault duplicate_fault chain_fault run_fault gat_fault shared_fault chain_whole size_fault directory_fault fault_at lowest fault beside beside_two
+    free_granules kept permitted free_slot free_slots and_then or_else fails disk_or lengthens extended take_one grow_by growth unhooked drop_one first
+    good_length in_range new_in_range check fresh candidates carries compared_in named look_up full admits open' create fetch read_of read_sector store
+    size_after write_of allot trim kill_entry kill whole back_entry bring_back shown listed tell_first list counts stretch longest_in low_end free_space
+    digits slashed line listing file_at found_in plain born_as overwritten written_to allotted_to trimmed back_as with' reserved
 opened = true

@@ -173,7 +173,8 @@ module _ (g : Geometry) (b : Bool) (d : List ℕ) where
   off_directory-same = λ i p. any (system g d p ∷ every (λ n. not (has (directory_granules g d) n)) (owned-same i p) ∷ [])
 
   slot_holds-same : slot_holds g d ≡ slot_holds (stated b g) d
-  unfolding slot_holds hit_holds hit pairs_hold link_holds_by follows_by is_slot directory_sectors runs_hold gat_holds taken granules entry_granules runs runs_from field
+  unfolding slot_holds hit_holds hit pairs_hold link_holds_by follows_by is_slot directory_sectors runs_hold gat_holds taken granules entry_granules runs
+      runs_from field
   slot_holds-same = refl
 
   file_holds-same : file_holds g d ≡ file_holds (stated b g) d

@@ -6,5 +6,6 @@ use Rattle.meaning.specs.Layout.{round_up, granule_sectors}
 use Rattle.layout.proofs.directory_granules.Goals as goal
 
 pub returns : goal.returns
-returns c = let e = c.directory_sectors.ensures in let w = c.granule_sectors-w.ensures in let q = ap (round_up c.directory_sectors.result) w.is ∙ ap (λ (n : ℕ). round_up n (granule_sectors c.args.g)) e in
+returns c = let e = c.directory_sectors.ensures in let w = c.granule_sectors-w.ensures in
+    let q = ap (round_up c.directory_sectors.result) w.is ∙ ap (λ (n : ℕ). round_up n (granule_sectors c.args.g)) e in
     record { is = q; small = omega (arith, q, touched-few c.args.g _ c.requires.thirty) }

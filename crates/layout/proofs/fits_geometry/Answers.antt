@@ -28,14 +28,19 @@ unfolding fits_geometry
 returns-then-g-gt-MOST_UNITS c = sym (all-out _ 3 (lt-leb _ _ c.if-g-gt-MOST_UNITS.true))
 
 pub returns-then-g-w-ne0 : goal.returns-then-g-w-ne0
-returns-then-g-w-ne0 c = let if5 = c.if-g-gt-MOST_UNITS in let if4 = c.if-g-lt1-2 in let if3 = c.if-g-gt-MOST_BLOCKS in let if2 = c.if-g-lt1 in let if1 = c.if-not-is_size in let is-size = c.is_size in fits-start _ _ (is-true is-size.ensures if1.false) if2.false if3.false if4.false if5.false c.granule_sectors-w.ensures.is
+returns-then-g-w-ne0 c = let if5 = c.if-g-gt-MOST_UNITS in let if4 = c.if-g-lt1-2 in let if3 = c.if-g-gt-MOST_BLOCKS in
+    let if2 = c.if-g-lt1 in let if1 = c.if-not-is_size in let is-size = c.is_size in
+    fits-start _ _ (is-true is-size.ensures if1.false) if2.false if3.false if4.false if5.false c.granule_sectors-w.ensures.is
     c.if-g-w-ne0.true
 
 pub overflow_mul-n : goal.overflow_mul-n
 overflow_mul-n c = omega (arith, mul-le-mul c.granules-n.ensures.1 c.granule_bytes.ensures.few)
 
 pub returns-then-image-n : goal.returns-then-image-n
-returns-then-image-n c = let if6 = c.if-g-w-ne0 in let granule-sectors = c.granule_sectors-w in let if5 = c.if-g-gt-MOST_UNITS in let if4 = c.if-g-lt1-2 in let if3 = c.if-g-gt-MOST_BLOCKS in let if2 = c.if-g-lt1 in let if1 = c.if-not-is_size in let is-size = c.is_size in fits-length _ _ (is-true is-size.ensures if1.false) if2.false if3.false if4.false if5.false granule-sectors.ensures.is if6.false
+returns-then-image-n c = let if6 = c.if-g-w-ne0 in let granule-sectors = c.granule_sectors-w in let if5 = c.if-g-gt-MOST_UNITS in
+    let if4 = c.if-g-lt1-2 in let if3 = c.if-g-gt-MOST_BLOCKS in let if2 = c.if-g-lt1 in let if1 = c.if-not-is_size in
+    let is-size = c.is_size in
+    fits-length _ _ (is-true is-size.ensures if1.false) if2.false if3.false if4.false if5.false granule-sectors.ensures.is if6.false
     c.granules-n.ensures.0 c.granule_bytes.ensures.is c.if-image-n.true
 
 pub returns-then-sector_numbers-g : goal.returns-then-sector_numbers-g
@@ -58,5 +63,9 @@ overflow_mul-result c = omega (
 )
 
 pub returns : goal.returns
-returns c = let if7 = c.if-image-n in let granule-bytes = c.granule_bytes in let granules = c.granules-n in let if6 = c.if-g-w-ne0 in let granule-sectors = c.granule_sectors-w in let if5 = c.if-g-gt-MOST_UNITS in let if4 = c.if-g-lt1-2 in let if3 = c.if-g-gt-MOST_BLOCKS in let if2 = c.if-g-lt1 in let if1 = c.if-not-is_size in let is-size = c.is_size in fits-rest _ _ (is-true is-size.ensures if1.false) if2.false if3.false if4.false if5.false granule-sectors.ensures.is if6.false
+returns c = let if7 = c.if-image-n in let granule-bytes = c.granule_bytes in let granules = c.granules-n in
+    let if6 = c.if-g-w-ne0 in let granule-sectors = c.granule_sectors-w in let if5 = c.if-g-gt-MOST_UNITS in
+    let if4 = c.if-g-lt1-2 in let if3 = c.if-g-gt-MOST_BLOCKS in let if2 = c.if-g-lt1 in let if1 = c.if-not-is_size in
+    let is-size = c.is_size in
+    fits-rest _ _ (is-true is-size.ensures if1.false) if2.false if3.false if4.false if5.false granule-sectors.ensures.is if6.false
     granules.ensures.0 granule-bytes.ensures.is if7.false
