@@ -16,7 +16,7 @@ use Rattle.meaning.specs.declared.Geometry.{Geometry}
 use Rattle.lists.specs.Tests.{any-skip, any-hit}
 use Rattle.read.proofs.ReadParts.{length-fetch}
 use Rattle.differences.specs.Compare.{parting, name_only, unlike, difference}
-use Rattle.differences.specs.Parting.{same-parting}
+use Rattle.differences.proofs.Parting.{same-parting}
 use Rattle.differences.specs.declared.Difference.{Difference}
 use Rattle.compare_order.specs.Walk.{name_at, on_first, on_second}
 use Rattle.compare_attributes.specs.Attributes.{dates_differ, others_differ}

@@ -23,7 +23,7 @@ use Rattle.read.proofs.ReadParts.{map-run, fetch-append, length-fetch}
 use Rattle.file_runs.specs.Along.{Along}
 use Rattle.file_runs.specs.declared.FileRun.{FileRun}
 use Rattle.differences.specs.Compare.{parting}
-use Rattle.differences.specs.Parting.{same-parting, parting-none, parting-nothing, parting-on, parting-here, parting-past, parting-in}
+use Rattle.differences.proofs.Parting.{same-parting, parting-none, parting-nothing, parting-on, parting-here, parting-past, parting-in}
 use Rattle.compare_order.specs.Whole.{WholeDisk, StartsFile}
 
 -- two parts are alike in the first i bytes

@@ -33,7 +33,7 @@ module _ (g : Geometry) (d : List ℕ) where
   abbrev pub create_refusals : List ℕ → NewFile → Bool → List (ℕ × Bool)
   create_refusals n f checking =
       let m = (Names.comes_in n).name in
-      Refusals.disk_refusals g d ((12, not (Refusals.new_in_range f)) ∷ Refusals.BadName n
+      Refusals.disk_refusals g d ((12, not (Refusals.new_in_range f)) ∷ Refusals.bad_name n
       ∷ (5, all (not (LookUp.missing g d m) ∷ not (Open.admits g d (LookUp.slot_of g d m) checking f.main) ∷ []))
       ∷ (8, all (LookUp.missing g d m ∷ eqb (length (Free.free_slots g d)) 0 ∷ [])) ∷ [])
 

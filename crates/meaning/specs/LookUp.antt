@@ -35,7 +35,7 @@ module _ (g : Geometry) (d : List ℕ) where
   slot_of n = first_or 0 (named n)
 
   abbrev pub look_up_refusals : List ℕ → List (ℕ × Bool)
-  look_up_refusals n = Refusals.disk_refusals g d (Refusals.BadName n ∷ (4, missing (Names.comes_in n).name) ∷ [])
+  look_up_refusals n = Refusals.disk_refusals g d (Refusals.bad_name n ∷ (4, missing (Names.comes_in n).name) ∷ [])
 
   -- look up returns its count as well under 4, and 0 under 1, 2 (now 21 to 30) and 3
   unfoldable pub look_up : List ℕ → LookedUp

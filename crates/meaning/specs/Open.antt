@@ -27,7 +27,7 @@ module _ (g : Geometry) (d : List ℕ) where
   abbrev pub open_refusals : List ℕ → ℕ → Bool → ℕ → List (ℕ × Bool)
   open_refusals n len checking code =
       let m = (Names.comes_in n).name in
-      Refusals.disk_refusals g d ((12, not (Handles.good_length len)) ∷ Refusals.BadName n
+      Refusals.disk_refusals g d ((12, not (Handles.good_length len)) ∷ Refusals.bad_name n
       ∷ (4, LookUp.missing g d m) ∷ (5, not (admits (LookUp.slot_of g d m) checking code)) ∷ [])
 
   unfoldable pub open' : List ℕ → ℕ → Bool → ℕ → Answer

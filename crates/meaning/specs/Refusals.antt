@@ -25,8 +25,8 @@ unfoldable pub new_in_range : NewFile → Bool
 new_in_range f = all (leb f.day 31 ∷ leb f.month 15 ∷ leb f.year 15 ∷ Handles.good_length f.len ∷ [])
 
 -- 3: name not well formed (calls by name)
-abbrev pub BadName : List ℕ → ℕ × Bool
-BadName n = (3, not (Names.well_formed (Names.comes_in n).name))
+abbrev pub bad_name : List ℕ → ℕ × Bool
+bad_name n = (3, not (Names.well_formed (Names.comes_in n).name))
 
 -- "Refusals: 3 now carries a place, 0 to 10" (02 §7): that of the name's first bad byte
 abbrev pub bad_at : List ℕ → Refusal

@@ -323,8 +323,8 @@ pub record NewInRange (f : NewFile) : Type 0 where
   pub length' : LengthInRange f.len
 
 -- 3 the folded name is not well formed (02 §7); its place is in `SaysPlace`
-abbrev pub BadName : List ℕ → ℕ × Type 0
-BadName n = (3, well_formed (fold n) ≡ false)
+abbrev pub bad_name : List ℕ → ℕ × Type 0
+bad_name n = (3, well_formed (fold n) ≡ false)
 
 module _ (g : Geometry) (d : List ℕ) where
   -- 21 to 30, in 2's place (02 §2): the disk's fault has that number. It has one exactly if it is not consistent.
@@ -377,11 +377,11 @@ module _ (g : Geometry) (d : List ℕ) where
 
   abbrev pub table : Call → Table
   table checks = disk_cases []
-  table (looks_up n) = disk_cases (BadName n ∷ (4, NoFile (fold n)) ∷ [])
+  table (looks_up n) = disk_cases (bad_name n ∷ (4, NoFile (fold n)) ∷ [])
   table (opens n len checking code) =
-      disk_cases ((12, (LengthInRange len → ⊥)) ∷ BadName n ∷ (4, NoFile (fold n)) ∷ (5, WrongCode (fold n) checking code) ∷ [])
+      disk_cases ((12, (LengthInRange len → ⊥)) ∷ bad_name n ∷ (4, NoFile (fold n)) ∷ (5, WrongCode (fold n) checking code) ∷ [])
   table (creates n f checking) =
-      disk_cases ((12, (NewInRange f → ⊥)) ∷ BadName n ∷ (5, WrongCode (fold n) checking f.main) ∷ (8, NoFile (fold n) × (free_slots g d ≡ [])) ∷ [])
+      disk_cases ((12, (NewInRange f → ⊥)) ∷ bad_name n ∷ (5, WrongCode (fold n) checking f.main) ∷ (8, NoFile (fold n) × (free_slots g d ≡ [])) ∷ [])
   table (reads a h b) = read_table h (how_many a h.len b) b
   table (reads_sector h k) = handle_cases h (InRange g h × (k < sector_numbers g)) ((6, 5 < h.level) ∷ (10, sector_count g d h.slot ≤ k) ∷ [])
   table (writes a m h b) = write_table m h (how_many a h.len b) b

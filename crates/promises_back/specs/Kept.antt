@@ -23,7 +23,7 @@ use Rattle.laws.specs.Undo
 use Rattle.promises.specs.Promises.{Good, Stays}
 use Rattle.promises.specs.Passing
 use Rattle.promises.specs.Staying
-use Rattle.promises.specs.Kept
+use Rattle.promises.proofs.Kept
 use Rattle.promises_back.specs.Statement.{EveryBack, Step, leaves_by, AllBring, Along, EveryState, KillUndone, EntriesBack}
 use Rattle.promises_back.specs.Numbers
 use Rattle.promises_back.specs.Serving

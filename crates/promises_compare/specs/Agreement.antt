@@ -12,7 +12,7 @@ use Rattle.meaning.specs.declared.Geometry.{Geometry}
 use Rattle.lists.specs.Members
 use Rattle.differences.specs.Compare.{parting, date_of, others_of, name_only, unlike, difference, is_one}
 use Rattle.differences.specs.Order.{never}
-use Rattle.differences.specs.Parting.{parting-none, parting-nothing, parting-on, parting-here, parting-swap}
+use Rattle.differences.proofs.Parting.{parting-none, parting-nothing, parting-on, parting-here, parting-swap}
 use Rattle.differences.specs.declared.Difference.{Difference}
 use Rattle.promises_compare.specs.Statement.{Equal, Agree, neither, by_name, equal, Parts, Unlike, Says, only_first, only_second, in_both, turned, swapped}
 

@@ -1,4 +1,3 @@
 pub mod Statement
 pub mod Agreement
 pub mod Telling
-pub mod Kept

@@ -19,7 +19,7 @@ use Rattle.meaning.specs.Free.{free_granules, free_slots}
 use Rattle.meaning.specs.Growth.{Grown, fails, disk_or, or_else, grow_by, growth, lacking}
 use Rattle.meaning.specs.Drop.{unhooked, drop_one}
 use Rattle.meaning.specs.Refusal.{unplaced, carried, carried_two}
-use Rattle.meaning.specs.Refusals.{bad_geometry, by_number, fault_numbers, disk_refusals, refusal, accepted, BadName, new_in_range, stale, handle_refusals}
+use Rattle.meaning.specs.Refusals.{bad_geometry, by_number, fault_numbers, disk_refusals, refusal, accepted, bad_name, new_in_range, stale, handle_refusals}
 use Rattle.meaning.specs.Refusals.{not_for_reading, protected, bad_at, name_refusal}
 use Rattle.meaning.specs.Handles.{good_length, in_range, fresh, no_handle, moved_to}
 use Rattle.meaning.specs.LookUp.{candidates, carries, compared_in, named, look_up, missing}
@@ -86,7 +86,7 @@ module _ (g : Geometry) (b : Bool) (d : List ℕ) where
   unfolding look_up
   look-up n =
       λ i. let m = (comes_in n).name in
-      let no = first (disk_refusals-same i (BadName n ∷ (4, eqb (length (named-same i m)) 0) ∷ [])) in
+      let no = first (disk_refusals-same i (bad_name n ∷ (4, eqb (length (named-same i m)) 0) ∷ [])) in
       record {
         refusal = name-refusal-same i n no;
         slot = cond (accepted no) (first_or 0 (named-same i m)) 0;
@@ -105,7 +105,7 @@ module _ (g : Geometry) (b : Bool) (d : List ℕ) where
   unfolding open'
   open-same n len checking code =
       λ i. let m = (comes_in n).name in
-      let no = first (disk_refusals-same i ((12, not (good_length len)) ∷ BadName n ∷ (4, eqb (length (named-same i m)) 0)
+      let no = first (disk_refusals-same i ((12, not (good_length len)) ∷ bad_name n ∷ (4, eqb (length (named-same i m)) 0)
       ∷ (5, not (admits-same i (first_or 0 (named-same i m)) checking code)) ∷ [])) in
       record {
         refusal = name-refusal-same i n no;
@@ -121,7 +121,7 @@ module _ (g : Geometry) (b : Bool) (d : List ℕ) where
       let m = (comes_in n).name in
       let s = first_or 0 (named-same i m) in
       let x = first_or 0 slots' in
-      let no = first (disk_refusals-same i ((12, not (new_in_range f)) ∷ BadName n
+      let no = first (disk_refusals-same i ((12, not (new_in_range f)) ∷ bad_name n
       ∷ (5, all (not new ∷ not (admits-same i s checking f.main) ∷ []))
       ∷ (8, all (new ∷ eqb (length slots') 0 ∷ [])) ∷ [])) in (
         record {

@@ -11,10 +11,10 @@ use Rattle.meaning.specs.declared.Handle.{Handle}
 use Rattle.together.specs.Statement as disk
 use Rattle.together.specs.Statement.{Name, Step, known, Side, Turn, one, two, Interleaving, none, left, right, Quiet, Same, SameFiles, AsItWas, Grip, grip}
 use Rattle.together.specs.State.{Good, stands}
-use Rattle.together.specs.Interleavings
-use Rattle.together.specs.Interleavings.{Fine}
+use Rattle.together.proofs.Interleavings
+use Rattle.together.proofs.Interleavings.{Fine}
 use Rattle.together.specs.SameFiles.{hushed-same, same_whole}
-use Rattle.together.specs.Demand3 as one-disk
+use Rattle.together.proofs.Demand3 as one-disk
 use Rattle.drives.specs.Pair.{Pair, pair, geometry, image, handle_on}
 use Rattle.drives.specs.declared.DriveHandle.{DriveHandle}
 use Rattle.promises_drives.specs.Statement.{IsDrive, zeroth, first}

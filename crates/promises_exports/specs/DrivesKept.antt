@@ -21,7 +21,7 @@ use Rattle.meaning.specs.declared.Handle.{Handle}
 use Rattle.meaning.specs.declared.NewFile.{NewFile}
 use Rattle.lists.specs.Members.{In, in-append-l, in-append-r}
 use Rattle.promises.specs.Said.{Said, says}
-use Rattle.promises.specs.Kept.{every_call}
+use Rattle.promises.proofs.Kept.{every_call}
 use Rattle.drives.specs.Pair.{Pair, image, geometry, leaving, on_drive, no_such_drive, naming', tested, of_both, handle_on, no_drive_handle, drive_of}
 use Rattle.drives.specs.ByName.{by_name, look_up, open_file, create, open_on, create_on, looked_up_on, opened_on, created_on, not_looked_up}
 use Rattle.drives.specs.ByName.{not_opened, not_created}

@@ -16,7 +16,7 @@ use Rattle.meaning.specs.declared.NewFile.{NewFile}
 use Rattle.lists.specs.Members.{In}
 use Rattle.promises_words.specs.Given.{AreBytes}
 use Rattle.promises.specs.Said.{Said}
-use Rattle.promises.specs.Promises.{Good, Stays, Table, Exactly, disk_cases, BadName, BadAt, Promised}
+use Rattle.promises.specs.Promises.{Good, Stays, Table, Exactly, disk_cases, bad_name, BadAt, Promised}
 use Rattle.promises_back.specs.Statement.{back_table, BackPromised}
 use Rattle.promises_fault.specs.Statement.{FaultIs}
 use Rattle.play_trace.specs.Bits.{bits}
@@ -60,7 +60,7 @@ pub record ExportFixed {A : Type 0} (x y : A) (number : ℕ) (numbers : List ℕ
 
 -- the check of a name: 12 where its buffer is too short, else 3 or 0
 abbrev pub name_table : List ℕ → List ℕ → Table
-name_table n b = (12, length b < name_bytes) ∷ BadName n ∷ []
+name_table n b = (12, length b < name_bytes) ∷ bad_name n ∷ []
 
 -- "hands back the folded name, or the place of the first bad byte" (02 §7)
 pub record NameTold (n b : List ℕ) (x : ℕ × ℕ × List ℕ) : Type 0 where

@@ -9,7 +9,7 @@ use Rattle.std.proofs.Math.Dec.{not_T, ltb, ltb→lt}
 use Rattle.std.proofs.lemmas.List.Edits.{sets}
 use Rattle.meaning.specs.Names.{well_formed, comes_in, fold, no_place}
 use Rattle.meaning.specs.Refusal.{unplaced, naming}
-use Rattle.meaning.specs.Refusals.{first, accepted, BadName, check, disk_refusals}
+use Rattle.meaning.specs.Refusals.{first, accepted, bad_name, check, disk_refusals}
 use Rattle.meaning.specs.BringBack.{bring_back}
 use Rattle.meaning.specs.Calls.{Call, number}
 use Rattle.meaning.specs.declared.Geometry.{Geometry}
@@ -23,14 +23,14 @@ use Rattle.lists.specs.Members.{In, in-append-l, in-append-r, no_false, false-no
 use Rattle.promises_words.specs.Given.{AreBytes}
 use Rattle.promises.specs.Promises.{Exactly, disk_cases, BadAt}
 use Rattle.promises.specs.Refusing.{exactly, own_rows}
-use Rattle.promises.specs.Kept.{every-name}
+use Rattle.promises.proofs.Kept.{every-name}
 use Rattle.promises_back.specs.Statement.{back_table}
 use Rattle.promises_back.specs.Kept.{every_back}
 use Rattle.promises_session.specs.Kept.{every-play}
 use Rattle.promises_rows.specs.Numbers.{rows_cases, rows-numbers}
 use Rattle.promises_rows.specs.RowByRow.{row_is, row-of-a-file, none-left-out, rest-stands, nothing-told}
 use Rattle.promises_load.specs.Numbers.{load-numbers}
-use Rattle.promises_compare.specs.Kept.{every-pair, every-refusal}
+use Rattle.promises_compare.proofs.Kept.{every-pair, every-refusal}
 use Rattle.refusal.specs.Short.{short_of_two}
 use Rattle.genie_codec.specs.Codec.{handle_bytes, name_bytes, handle_of}
 use Rattle.genie.specs.Exports.{names, exported_name, exported_bring_back, exported_play, too_short}
@@ -49,7 +49,7 @@ checked_name n b s t = cond s (12, no_place, b) (cond t (0, no_place, sets b 0 (
 
 -- its refusals, in the table's order
 abbrev name_refusals : List ℕ → List ℕ → List (ℕ × Bool)
-name_refusals n b = (12, ltb (length b) name_bytes) ∷ BadName n ∷ []
+name_refusals n b = (12, ltb (length b) name_bytes) ∷ bad_name n ∷ []
 
 first-name : (n b : List ℕ) (s t : Bool) → first ((12, s) ∷ (3, not t) ∷ []) ≡ (checked_name n b s t).0
 unfolding first

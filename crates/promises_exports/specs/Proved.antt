@@ -29,7 +29,7 @@ use Rattle.promises.specs.Said.{says}
 use Rattle.promises.specs.Promises.{Stays, Refuses, Table, Rows, Exactly, table, disk_cases}
 use Rattle.promises.specs.Refusing.{exactly, disk-reading}
 use Rattle.promises.specs.Staying.{stays_same}
-use Rattle.promises.specs.Kept.{every_call, every-write, stays_after}
+use Rattle.promises.proofs.Kept.{every_call, every-write, stays_after}
 use Rattle.promises_numbers.specs.Statement.{rows_of}
 use Rattle.promises_numbers.specs.Kept.{every-number}
 use Rattle.promises_fault.specs.Statement.{FaultIs, length', slot, granule, sound}

@@ -16,7 +16,7 @@ use Rattle.meaning.specs.declared.Geometry.{Geometry}
 use Rattle.meaning.specs.declared.Handle.{Handle}
 use Rattle.together.specs.Statement as together
 use Rattle.together.specs.Statement.{Name, Side, World, Agree, handle_at, kept}
-use Rattle.together.specs.Demand3.{demand3}
+use Rattle.together.proofs.Demand3.{demand3}
 use Rattle.genie_codec.specs.Codec.{handle_bytes, handle_of, stored, HandleFits}
 use Rattle.genie_codec.specs.Words.{mode_of}
 use Rattle.genie_codec.proofs.Fitting.{open-fits, create-fits, read_fits, write-fits}

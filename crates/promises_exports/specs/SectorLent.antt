@@ -9,7 +9,7 @@ use Rattle.meaning.specs.Plain.{File, found, plain}
 use Rattle.meaning.specs.declared.Geometry.{Geometry}
 use Rattle.meaning.specs.declared.Handle.{Handle}
 use Rattle.promises_words.specs.Given.{AreBytes}
-use Rattle.promises.specs.Kept.{every_call}
+use Rattle.promises.proofs.Kept.{every_call}
 use Rattle.read.specs.Part.{part_of}
 
 -- the plain file's bytes 256k and on, 256 of them or as many as there are

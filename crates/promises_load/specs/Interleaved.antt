@@ -19,10 +19,10 @@ use Rattle.promises.specs.Passing
 use Rattle.together.specs.Statement.{Name, Step, Side, handle_at, with_moved, Grip, grip, Turn, Interleaving, World, start, next, after, Taken, Accepted, known}
 use Rattle.together.specs.Statement.{answer, Agree}
 use Rattle.together.specs.State.{FileState, state_of, grip_at, stands, effect, Held, Good}
-use Rattle.together.specs.Effects
-use Rattle.together.specs.Interleavings
-use Rattle.together.specs.Interleavings.{Fine, state_in, swap}
-use Rattle.together.specs.Demand3
+use Rattle.together.proofs.Effects
+use Rattle.together.proofs.Interleavings
+use Rattle.together.proofs.Interleavings.{Fine, state_in, swap}
+use Rattle.together.proofs.Demand3
 use Rattle.load.specs.Load.{most_bytes, load_numbers, asked, bytes_of, load_refusals, load_record}
 use Rattle.load.specs.declared.NextRecord.{NextRecord}
 use Rattle.load.specs.declared.Loaded.{Loaded}

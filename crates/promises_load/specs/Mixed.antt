@@ -11,7 +11,7 @@ use Rattle.meaning.specs.Plain.{File, Found, found, nothing, plain, is_system}
 use Rattle.meaning.specs.declared.Geometry.{Geometry}
 use Rattle.together.specs.Statement.{Name, Step, moves, Side, handle_at, with_moved, Grip, Turn, World, start, next, after, Taken, Accepted, Agree}
 use Rattle.together.specs.State.{FileState, grip_at, effect}
-use Rattle.together.specs.Interleavings.{state_in, swap}
+use Rattle.together.proofs.Interleavings.{state_in, swap}
 use Rattle.load.specs.Records.{record_from}
 use Rattle.load.specs.Load.{load_record}
 use Rattle.load.specs.declared.Loaded.{Loaded}

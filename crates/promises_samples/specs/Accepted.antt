@@ -12,7 +12,7 @@ use Rattle.meaning.specs.declared.NewFile.{NewFile}
 use Rattle.meaning.specs.declared.Mode.TheVariants.{Sequential, Random}
 use Rattle.promises.specs.Promises.{Good, Along}
 use Rattle.meaning.specs.Calls.Call.{checks, looks_up, opens, creates, reads, reads_sector, writes, allots, trims, kills, lists, counts, measures}
-use Rattle.promises.specs.Kept
+use Rattle.promises.proofs.Kept
 
 -- `stays`, `EveryState`: a good disk
 fits : fits_geometry three sample ≡ true

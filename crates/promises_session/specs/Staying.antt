@@ -10,7 +10,7 @@ use Rattle.meaning.specs.declared.Geometry.{Geometry}
 use Rattle.meaning.specs.declared.Handle.{Handle}
 use Rattle.laws.specs.Bytes.{small_bytes, small-replicate}
 use Rattle.promises.specs.Promises.{Good, Stays, Brings}
-use Rattle.promises.specs.Kept.{every_call, stays_after}
+use Rattle.promises.proofs.Kept.{every_call, stays_after}
 use Rattle.promises.specs.Staying
 use Rattle.play_trace.specs.Steps.{Field, the_fill, width_of, value_of, numbers_for}
 use Rattle.play_trace.specs.Packing.{StepFits, StepsFit}

@@ -29,10 +29,10 @@ use Rattle.together.specs.Statement.{Brings, AllBring, known, answer, handle_at,
 use Rattle.together.specs.Statement.{none, left, right, Side, World, start, next, Accepted}
 use Rattle.together.specs.State
 use Rattle.together.specs.State.{FileState, stands, state_of, grip_at, changed, born, effect, Held}
-use Rattle.together.specs.Effects
-use Rattle.together.specs.Heard.{call-bytes}
-use Rattle.together.specs.Interleavings
-use Rattle.together.specs.Interleavings.{Fine}
+use Rattle.together.proofs.Effects
+use Rattle.together.proofs.Heard.{call-bytes}
+use Rattle.together.proofs.Interleavings
+use Rattle.together.proofs.Interleavings.{Fine}
 use Rattle.load.specs.Records.{told_at, record_from, past}
 use Rattle.load.specs.Load.{asked, bytes_of, load_refusals, load_record}
 use Rattle.load.specs.declared.Item.{Item}

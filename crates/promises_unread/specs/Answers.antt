@@ -24,7 +24,7 @@ use Rattle.meaning.specs.Free.{free_granules, free_slots}
 use Rattle.meaning.specs.Growth.{fails, growth, lacking, with_granules}
 use Rattle.meaning.specs.Drop.{drop_one}
 use Rattle.meaning.specs.Refusal.{unplaced, carried, carried_two}
-use Rattle.meaning.specs.Refusals.{by_number, fault_numbers, disk_refusals, refusal, accepted, BadName, new_in_range, handle_refusals}
+use Rattle.meaning.specs.Refusals.{by_number, fault_numbers, disk_refusals, refusal, accepted, bad_name, new_in_range, handle_refusals}
 use Rattle.meaning.specs.Refusals.{not_for_reading, protected}
 use Rattle.meaning.specs.Refusals.{bad_at, name_refusal, cannot_grow, check}
 use Rattle.meaning.specs.Handles.{good_length, in_range, fresh, no_handle, moved_to}
@@ -204,7 +204,7 @@ module _ (u : Kinds) (g : Geometry) (d d' : List ℕ) (a : ReadAlike u g d d') w
   unfolding look_up
   look-up n =
       λ i. let m = (comes_in n).name in
-      let no = first (disk_refusals-same i (BadName n ∷ (4, eqb (length (named-same m i)) 0) ∷ [])) in
+      let no = first (disk_refusals-same i (bad_name n ∷ (4, eqb (length (named-same m i)) 0) ∷ [])) in
       record {
         refusal = name-refusal-same i n no;
         slot = cond (accepted no) (first_or 0 (named-same m i)) 0;
@@ -249,11 +249,11 @@ module _ (u : Kinds) (g : Geometry) (d d' : List ℕ) (a : ReadAlike u g d d') w
   open-number n len checking code =
       let m = (comes_in n).name in
       after-disk g d
-      ((12, not (good_length len)) ∷ BadName n ∷ (4, missing g d m) ∷ (5, not (admits g d (slot_of g d m) checking code)) ∷ [])
-      ((12, not (good_length len)) ∷ BadName n ∷ (4, missing g d m) ∷ (5, not (admits g d' (slot_of g d m) checking code)) ∷ []) (λ v.
+      ((12, not (good_length len)) ∷ bad_name n ∷ (4, missing g d m) ∷ (5, not (admits g d (slot_of g d m) checking code)) ∷ [])
+      ((12, not (good_length len)) ∷ bad_name n ∷ (4, missing g d m) ∷ (5, not (admits g d' (slot_of g d m) checking code)) ∷ []) (λ v.
       ap (λ (z : ℕ). cond (not (good_length len)) 12 (cond (not (well_formed m)) 3 z))
       (unless (missing g d m) 4 _ _ (λ e. ap (λ (b : Bool). cond (not b) 5 0) (admits-at (slot_of g d m) (named-file m e) checking code))))
-      ∙ (λ i. first (disk_refusals-same i ((12, not (good_length len)) ∷ BadName n ∷ (4, eqb (length (named-same m i)) 0)
+      ∙ (λ i. first (disk_refusals-same i ((12, not (good_length len)) ∷ bad_name n ∷ (4, eqb (length (named-same m i)) 0)
       ∷ (5, not (admits g d' (first_or 0 (named-same m i)) checking code)) ∷ [])))
 
   -- who was accepted was found
@@ -285,14 +285,14 @@ module _ (u : Kinds) (g : Geometry) (d d' : List ℕ) (a : ReadAlike u g d d') w
   create-number n f checking =
       let m = (comes_in n).name in let none = missing g d m in
       after-disk g d
-      ((12, not (new_in_range f)) ∷ BadName n ∷ (5, all (not none ∷ not (admits g d (slot_of g d m) checking f.main) ∷ []))
+      ((12, not (new_in_range f)) ∷ bad_name n ∷ (5, all (not none ∷ not (admits g d (slot_of g d m) checking f.main) ∷ []))
       ∷ (8, all (none ∷ eqb (length (free_slots g d)) 0 ∷ [])) ∷ [])
-      ((12, not (new_in_range f)) ∷ BadName n ∷ (5, all (not none ∷ not (admits g d' (slot_of g d m) checking f.main) ∷ []))
+      ((12, not (new_in_range f)) ∷ bad_name n ∷ (5, all (not none ∷ not (admits g d' (slot_of g d m) checking f.main) ∷ []))
       ∷ (8, all (none ∷ eqb (length (free_slots g d)) 0 ∷ [])) ∷ []) (λ v.
       ap (λ (b : Bool). cond (not (new_in_range f)) 12 (cond (not (well_formed m)) 3 (cond b 5 (cond (all (none ∷ eqb (length (free_slots g d)) 0 ∷ [])) 8 0))))
       (asked none _ _ (λ e. ap not (admits-at (slot_of g d m) (named-file m e) checking f.main))))
       ∙ (λ i. let none' = eqb (length (named-same m i)) 0 in
-      first (disk_refusals-same i ((12, not (new_in_range f)) ∷ BadName n
+      first (disk_refusals-same i ((12, not (new_in_range f)) ∷ bad_name n
       ∷ (5, all (not none' ∷ not (admits g d' (first_or 0 (named-same m i)) checking f.main) ∷ []))
       ∷ (8, all (none' ∷ eqb (length (Reads.free_slots-same u g d d' a i)) 0 ∷ [])) ∷ [])))
     where

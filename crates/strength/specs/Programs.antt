@@ -9,7 +9,7 @@ use Rattle.meaning.specs.declared.Geometry.{Geometry}
 use Rattle.meaning.specs.declared.Handle.{Handle}
 use Rattle.promises.specs.Said.{Said, says}
 use Rattle.promises.specs.Promises.{Promised}
-use Rattle.promises.specs.Kept.{every_call}
+use Rattle.promises.proofs.Kept.{every_call}
 
 -- what a program is asked, and what it says of that: a number and the image that it leaves among it; and what is promised of what is said. 01's
 -- calls are so (`of_calls`), and so are those that a host makes, whose handles are bytes (strength_exports).

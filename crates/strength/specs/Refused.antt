@@ -13,7 +13,7 @@ use Rattle.meaning.specs.Calls.Call.{checks, looks_up, reads, kills}
 use Rattle.promises.specs.Said.{Said}
 use Rattle.promises.specs.Promises
 use Rattle.promises.specs.Promises.{Promised, matching}
-use Rattle.promises.specs.Kept.{every_call}
+use Rattle.promises.proofs.Kept.{every_call}
 use Rattle.strength.specs.Programs.{Program, Meets, RefusesAll, AlwaysAlike, ChangesNothing, FirstOnly, of_calls}
 use Rattle.strength.specs.Fixed.{one_number, one-file, there-or-not}
 

@@ -1,11 +1,6 @@
 pub mod Statement
 pub mod State
-pub mod Effects
-pub mod Interleavings
-pub mod Heard
 pub mod SameFiles
 pub mod Quiet
 pub mod Still
-pub mod Bytes
-pub mod Demand3
 pub mod Asked

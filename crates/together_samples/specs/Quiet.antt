@@ -13,7 +13,7 @@ use Rattle.meaning_table.specs.Samples.{opened, puls, leer, laid}
 use Rattle.meaning.specs.declared.Mode.TheVariants.{Sequential, Random}
 use Rattle.together.specs.Statement.{Name, Step, opens, moves, writes, known, answer, Turn, one, two, none, left, right, start, after, Accepted, Quiet}
 use Rattle.together.specs.Statement.{AllQuiet}
-use Rattle.together.specs.Demand3.{demand3}
+use Rattle.together.proofs.Demand3.{demand3}
 use Rattle.together_samples.specs.Slots.{differ, tiny}
 
 -- PULS01/DAT in slot 80H with granule 2, LEER in slot 81H with granule 3, 2 bytes each

@@ -11,7 +11,7 @@ use Rattle.meaning.specs.Calls.{number, leaves}
 use Rattle.meaning_table.specs.Samples.{opened, puls, leer, laid}
 use Rattle.meaning.specs.declared.Geometry.{Geometry}
 use Rattle.together.specs.Statement.{Step, opens, allots, known, answer, Turn, one, two, none, left, right, World, start, after, Accepted, Agree}
-use Rattle.together.specs.Demand3.{demand3}
+use Rattle.together.proofs.Demand3.{demand3}
 use Rattle.together_samples.specs.Slots.{differ}
 
 -- 16 blocks of 2 units, the directory at the front in granules 0 and 1

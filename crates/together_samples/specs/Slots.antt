@@ -12,7 +12,7 @@ use Rattle.meaning.specs.declared.NewFile.{NewFile}
 use Rattle.meaning.specs.declared.Mode.TheVariants.{Sequential}
 use Rattle.together.specs.Statement.{Step, creates, moves, writes, known, answer, handle_at, Turn, one, two, none, left, right, World, start, after, Accepted}
 use Rattle.together.specs.Statement.{Agree}
-use Rattle.together.specs.Demand3.{demand3}
+use Rattle.together.proofs.Demand3.{demand3}
 
 -- 2 blocks of 2 units, the directory at the front in granules 0 and 1, no file
 abbrev pub tiny : Geometry

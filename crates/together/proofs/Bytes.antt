@@ -27,9 +27,9 @@ use Rattle.laws.specs.Named
 use Rattle.together.specs.Statement.{Name, Step, looks_up, opens, creates, moves, reads, reads_sector, writes, allots, trims, kills, Side, known, answer}
 use Rattle.together.specs.Statement.{handle_at, many_by, Turn, one, two, Interleaving, none, left, right, World, start, next, after, Taken}
 use Rattle.together.specs.State.{Held, Good}
-use Rattle.together.specs.Effects
-use Rattle.together.specs.Interleavings
-use Rattle.together.specs.Interleavings.{Fine, swap, swapped}
+use Rattle.together.proofs.Effects
+use Rattle.together.proofs.Interleavings
+use Rattle.together.proofs.Interleavings.{Fine, swap, swapped}
 use Rattle.together.specs.Quiet
 use Rattle.together.specs.Quiet.{Even, Laid, region, in_entry, in_data, written}
 use Rattle.together.specs.Still

@@ -5,8 +5,8 @@ use Rattle.meaning.specs.Names.{fold}
 use Rattle.meaning.specs.declared.Geometry.{Geometry}
 use Rattle.together.specs.Statement.{Name, Step, Turn, one, two, Interleaving, none, left, right, World, start, next, after, Taken, Accepted}
 use Rattle.together.specs.State.{FileState, state_of, stands, effect, effects, Held, Good}
-use Rattle.together.specs.Effects
-use Rattle.together.specs.Effects.{Effect}
+use Rattle.together.proofs.Effects
+use Rattle.together.proofs.Effects.{Effect}
 
 -- The lists change places: what is shown of the first list holds of the second -----------------------------------------------
 

@@ -18,7 +18,7 @@ use Rattle.promises.specs.Refusing
 use Rattle.promises.specs.Passing
 use Rattle.promises.specs.Staying
 use Rattle.promises.specs.Changing
-use Rattle.promises.specs.Finding
+use Rattle.promises.proofs.Finding
 use Rattle.promises.specs.Sector
 use Rattle.promises.specs.Telling
 use Rattle.promises.specs.Measuring

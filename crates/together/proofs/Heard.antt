@@ -22,9 +22,9 @@ use Rattle.together.specs.Statement.{Name, Step, looks_up, opens, creates, moves
 use Rattle.together.specs.Statement.{AllBring, known, answer, kept, handle_at, many_by, Grip, grip, Turn, one, two, Interleaving, none, left, right}
 use Rattle.together.specs.Statement.{World, next, after, Accepted}
 use Rattle.together.specs.State.{FileState, state_of, grip_at, stands, effect, Held, Good}
-use Rattle.together.specs.Effects
-use Rattle.together.specs.Interleavings
-use Rattle.together.specs.Interleavings.{Fine, state_in}
+use Rattle.together.proofs.Effects
+use Rattle.together.proofs.Interleavings
+use Rattle.together.proofs.Interleavings.{Fine, state_in}
 
 -- a part of the file's bytes, as it is kept
 unfoldable part_of : (List ℕ → List ℕ) → Found → List ℕ

@@ -13,14 +13,14 @@ use Rattle.laws.specs.Facts
 use Rattle.together.specs.Statement.{Name, Step, Turn, one, two, Interleaving, none, left, right, AllBring, World, start, next, after, Taken, Accepted}
 use Rattle.together.specs.Statement.{Quiet, AllQuiet, Same, Demand3}
 use Rattle.together.specs.State.{FileState, stands, effect, Good}
-use Rattle.together.specs.Interleavings
-use Rattle.together.specs.Interleavings.{Fine, swap, state_in}
-use Rattle.together.specs.Heard
+use Rattle.together.proofs.Interleavings
+use Rattle.together.proofs.Interleavings.{Fine, swap, state_in}
+use Rattle.together.proofs.Heard
 use Rattle.together.specs.SameFiles.{hushed-same, same_whole}
 use Rattle.together.specs.Quiet
 use Rattle.together.specs.Quiet.{Even, tally}
-use Rattle.together.specs.Bytes
-use Rattle.together.specs.Bytes.{Evenly}
+use Rattle.together.proofs.Bytes
+use Rattle.together.proofs.Bytes.{Evenly}
 
 -- Whether a call takes or gives back something hangs on its own list alone ---------------------------------------------------
 

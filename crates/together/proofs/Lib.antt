@@ -1,0 +1,5 @@
+pub mod Effects
+pub mod Interleavings
+pub mod Heard
+pub mod Bytes
+pub mod Demand3
