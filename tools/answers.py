@@ -170,7 +170,8 @@ def convert(crate, func_dir, d):
             found = names.need(m[1])
             # text after signature
             k = 1
-            while k < len(body_lines) and body_lines[k].startswith("    ") and "=" not in body_lines[k] and not body_lines[k].startswith("unfolding"):
+            while (k < len(body_lines) and body_lines[k].startswith("    ") and "=" not in body_lines[k]
+                   and not body_lines[k].startswith("unfolding")):
                 k += 1
             rest = "\n".join(body_lines[k:])
             mm = re.match(r"((?:unfolding [^\n]*\n(?:    [^\n]*\n)*)?)" + re.escape(name) + r"((?: [^=\s]+)*) =\s*([\s\S]*)", rest)
@@ -228,11 +229,13 @@ def convert(crate, func_dir, d):
     if invs:
         used = deps("\n".join(invs), helpers)
         body = "\n\n".join(used + invs)
-        (func_dir / "Invariants.antt").write_text("\n".join(imports(body) + [f"use Rattle.{crate_name}.proofs.{mod}.Given as goal"]) + "\n\n" + body + "\n")
+        head = imports(body) + [f"use Rattle.{crate_name}.proofs.{mod}.Given as goal"]
+        (func_dir / "Invariants.antt").write_text("\n".join(head) + "\n\n" + body + "\n")
     used = deps("\n".join(answers), helpers)
     if answers:
         body = "\n\n".join(used + answers)
-        (func_dir / "Answers.antt").write_text("\n".join(imports(body) + [f"use Rattle.{crate_name}.proofs.{mod}.Goals as goal"]) + "\n\n" + body + "\n")
+        head = imports(body) + [f"use Rattle.{crate_name}.proofs.{mod}.Goals as goal"]
+        (func_dir / "Answers.antt").write_text("\n".join(head) + "\n\n" + body + "\n")
     left = [h for h in helpers if h not in used and h not in deps("\n".join(invs), helpers)]
     if left: warn.append("unused helpers: " + ", ".join(h.split(" :")[0] for h in left))
     (func_dir / "Proof.antt").unlink()
