@@ -5,7 +5,8 @@
 
 A word of specs/ or proofs/ in camel case becomes one in snake case (`fitsGeometry`, `fits_geometry`), part by part where a dash joins
 names (`chainFrom-next`, `chain_from-next`); `getD` in a lemma's name is std's `get_or` today. A definition that is a type has a capital.
-A field or a function of src/ keeps its name. Where a lemma and a word of one file would fall together, the lemma keeps the dash that it had.
+A field or a function of src/ keeps its name. Where a lemma and a word of one file would fall together, the lemma keeps the dash that it
+had.
 """
 import glob
 import re
@@ -13,7 +14,8 @@ import sys
 
 # Names of src/, and pieces of strings there.
 KEPT = {"noPassword", "x00DIR", "x00LEER", "x00PULS01", "x05PULS01", "x10LEER"}
-# Definitions that are types (`badName` is none: it was respelled again by hand, `bad_name`); and the entry of slot A3, beside `e80` and `e81`.
+# Definitions that are types (`badName` is none: it was respelled again by hand, `bad_name`); and the entry of slot A3, beside `e80` and
+# `e81`.
 TYPES = {"badName": "BadName", "byteApart": "ByteApart", "case_at": "CaseAt", "eA3": "ea3"}
 # Lemmas whose dash the older script took for a word's, each in the files that speak of it.
 DASHED = {
