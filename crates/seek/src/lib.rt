@@ -10,61 +10,41 @@ ghost use Rattle.seek.specs.Seek.{Walkable, Used, Sought};
 
 use meaning::Geometry;
 
-#[derive(Clone, Copy)]
-pub struct Seek {
-    pub here: bool,
-    pub at: usize,
-}
-
 // Granule k of an entry, or how far past the entry's granules k is.
-pub fn seek_entry(image: &[u8], g: Geometry, s: usize, k: usize) -> Seek
+pub fn seek_entry(image: &[u8], g: Geometry, s: usize, k: usize) -> Result<usize, usize>
     requires { Room g image.now × Slot g image.now s × (k < 4294967296) }
     ensures { Sought (entry_granules g image.now s) k result }
 {
-    let mut j = 0;
     let mut left = k;
-    while j < layout::PAIRS {
+    for j in 0..layout::PAIRS {
         if layout::field(image, g, s, layout::BLOCKS + 2 * j) == layout::ENDS {
-            return Seek {
-                here: false,
-                at: left,
-            };
+            return Err(left);
         }
         let len = layout::run_length(image, g, s, j);
         if left < len {
-            return Seek {
-                here: true,
-                at: layout::run_start(image, g, s, j) + left,
-            };
+            return Ok(layout::run_start(image, g, s, j) + left);
         }
         left -= len;
-        j += 1;
     }
-    Seek {
-        here: false,
-        at: left,
-    }
+    Err(left)
 }
 
-// Granule k of a file from the entry at slot s on; 0 past the last.
+// Granule k of a file from the entry at slot s on; 0 past the last, as `place` has it.
 pub fn entry_walk(image: &[u8], g: Geometry, s: usize, k: usize, left: usize) -> usize
     requires { Walkable g image.now × Used g image.now s × (k < 65536) }
     ensures { (result ≡ get_or (each (entry_granules g image.now) (chain_from g image.now left s)) k 0) × (result ≤ k + 2080) }
 {
     let mut at = s;
     let mut seek = k;
-    let mut more = left;
-    while 0 < more {
-        let e = seek_entry(image, g, at, seek);
-        if e.here {
-            return e.at;
+    for _ in 0..left {
+        match seek_entry(image, g, at, seek) {
+            Ok(granule) => return granule,
+            Err(past) => seek = past,
         }
         if layout::field(image, g, at, layout::MARKER) != layout::HANDS_ON {
             return 0;
         }
         at = layout::field(image, g, at, layout::LINK);
-        seek = e.at;
-        more -= 1;
     }
     0
 }
