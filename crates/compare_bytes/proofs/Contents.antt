@@ -1,29 +1,29 @@
 -- Two contents held against each other, byte by byte and run by run.
 use mathlib.Core.Path.{◌≡◌, refl, sym, ap, ◌∙◌}
 use mathlib.Core.Logic.{⊎_elim}
-use mathlib.Core.Bool.{Bool, true, ◌&&◌, and_assoc, and-true}
-use mathlib.Core.List.{List, ◌∷◌, ◌++◌}
+use mathlib.Core.Bool.{Bool, true}
+use mathlib.Core.List.{List, [], ◌∷◌, ◌++◌}
+use Rattle.std.specs.Str.{bytes_eq}
+use Rattle.std.specs.Prelude.{min}
+use Rattle.std.proofs.lemmas.Slice.Eq.{bytes_eq-Decides}
 use Prim.Native.Nat.{ℕ, suc, ◌+◌, ◌-◌, ◌*◌, ◌≤◌, ◌<◌}
 use native.Mathlib.Omega.{arith}
 use native.Mathlib.Nat.{zero-add, add-zero}
 use native.Mathlib.Numerals.{add-one}
 use lib.ListN.{length, get_or, take, drop, drop_of_length-le}
 use lib.Seq.{drop-cons}
-use lib.Dec.{eqb}
-use borrow.Author.Tests.{eqb-true}
-use Rattle.meaning.specs.Lists.{same}
 use Rattle.meaning.specs.Layout.{granule_bytes}
 use Rattle.meaning.specs.Entries.{size_of, in_use}
 use Rattle.meaning.specs.Chain.{owned, place}
 use Rattle.meaning.specs.Read.{fetch}
 use Rattle.meaning.specs.declared.Geometry.{Geometry}
-use Rattle.lists.specs.Tests.{and_l, all-at, le-or-lt}
+use Rattle.lists.specs.Tests.{and_l, le-or-lt}
 use Rattle.seek.specs.Seek.{Used}
 use Rattle.read.proofs.ReadParts.{map-run, fetch-append, length-fetch}
 use Rattle.file_runs.specs.Along.{Along}
 use Rattle.file_runs.specs.declared.FileRun.{FileRun}
 use Rattle.differences.specs.Compare.{parting}
-use Rattle.differences.proofs.Parting.{same-parting, parting-none, parting-nothing, parting-on, parting-here, parting-past, parting-in}
+use Rattle.differences.proofs.Parting.{parting-none, parting-nothing, parting-on, parting-here, parting-past, parting-in}
 use Rattle.compare_order.specs.Whole.{WholeDisk, StartsFile}
 
 -- two parts are alike in the first i bytes
@@ -52,46 +52,33 @@ module _ (a b : List ℕ) where
     agree-stop e =
         (sym (k.rest ∙ ap (λ (x : ℕ). i + x) (cut ∙ parting-here (get_or a i 0) (get_or b i 0) (drop (suc i) a) (drop (suc i) b) e) ∙ add-zero i), omega arith)
 
-  pub agree-end : {i : ℕ} → length a ≤ i → AlikeSoFar a b i → (i ≡ parting a b) × (i ≤ length a)
-  agree-end {i} h k = (
-    sym (k.rest ∙ ap (λ (x : List ℕ). i + parting x (drop i b)) (drop_of_length-le a {i = i} h) ∙ ap (λ (x : ℕ). i + x) (parting-nothing (drop i b)) ∙
-        add-zero i),
-    k.low,
-  )
+  pub agree-end : {i : ℕ} → length a ≤ i → AlikeSoFar a b i → (length a ≡ parting a b) × (length a ≤ length a)
+  agree-end {i} h k =
+      let m = k.low in let e : length a ≡ i = omega arith in (
+        e ∙ sym (k.rest ∙ ap (λ (x : List ℕ). i + parting x (drop i b)) (drop_of_length-le a {i = i} h) ∙ ap (λ (x : ℕ). i + x) (parting-nothing (drop i b))
+            ∙ add-zero i),
+        omega arith,
+      )
 
--- Whether two parts are the same, i bytes of them compared ------------------------------------------------------------------
+-- parts that are the same are alike to their end
+parting-self : (xs : List ℕ) → parting xs xs ≡ length xs
+unfolding parting
+parting-self [] = refl
+parting-self (x ∷ xs) = parting-on x x xs xs refl ∙ ap suc (parting-self xs)
 
-module _ (a b : List ℕ) where
-  pub record SameSoFar (i : ℕ) (r : Bool) : Type 0 where
-    pub low : i ≤ length a
-    pub rest : same a b ≡ (r && same (drop i a) (drop i b))
+pub same_alike : (a b : List ℕ) {r : Bool} → r ≡ bytes_eq a b → r ≡ true → (length a ≡ parting a b) × (length a ≤ length a)
+same_alike a b e f = let q = (bytes_eq-Decides a b).0 (sym e ∙ f) in (sym (parting-self a) ∙ ap (parting a) q, omega arith)
 
-  pub same_start : SameSoFar 0 true
-  same_start = record { low = omega arith; rest = refl }
+-- the smaller of two numbers
+module _ (n m : ℕ) {r : ℕ} (e : r ≡ min n m) where
+  pub least-first : r ≤ n
+  least-first = omega arith
 
-  pub same-on : {i : ℕ} {r : Bool} → length a ≡ length b → i < length a → SameSoFar i r → SameSoFar (i + 1) (r && eqb (get_or a i 0) (get_or b i 0))
-  same-on {i} {r} l h k =
-      let p = drop-cons a i 0 h in let q = drop-cons b i 0 (omega arith) in
-      record {
-        low = omega arith;
-        rest = k.rest ∙ (λ j. r && same (p j) (q j)) ∙ sym (and_assoc r (eqb (get_or a i 0) (get_or b i 0)) (same (drop (suc i) a) (drop (suc i) b)))
-            ∙ ap (λ (x : ℕ). (r && eqb (get_or a i 0) (get_or b i 0)) && same (drop x a) (drop x b)) (sym (add-one i));
-      }
+  pub least-second : r ≤ m
+  least-second = omega arith
 
-  pub same_end : {i : ℕ} {r : Bool} → length a ≡ length b → length a ≤ i → SameSoFar i r → r ≡ same a b
-  same_end {i} {r} l h k =
-      let p = drop_of_length-le a {i = i} h in let q = drop_of_length-le b {i = i} (omega arith) in
-      sym (k.rest ∙ (λ j. r && same (p j) (q j)) ∙ and-true r)
-
-  -- parts that are the same are alike to their end
-  pub same_alike : {n : ℕ} {r : Bool} → n ≡ length a → r ≡ same a b → r ≡ true → (n ≡ parting a b) × (n ≤ length a)
-  same_alike {n} e f h =
-      let q = eqb-true (parting a b) (length a) (all-at _ (sym (same-parting a b) ∙ sym f ∙ h) 1) in
-      (omega arith, omega arith)
-
--- the smaller of two numbers, of which neither is 0
-pub least-some : (n m r : ℕ) → 0 < n → 0 < m → (r < n → r ≡ m) → 0 < r
-least-some n m r a b f = ⊎_elim (λ q. omega arith) (λ q. let e = f q in omega arith) (le-or-lt n r)
+  pub least-other : r < n → r ≡ m
+  least-other l = omega arith
 
 -- a file of a disk that passed
 module _ (g : Geometry) (d : List ℕ) (s : ℕ) where

@@ -2,7 +2,6 @@
 #![tactic(auto)]
 
 ghost use Rattle.std.specs.Prelude.{◌≡◌, ◌+◌, ◌<◌, ◌≤◌, length};
-ghost use Rattle.meaning.specs.Lists.{same};
 ghost use Rattle.meaning.specs.Entries.{size_of};
 ghost use Rattle.meaning.specs.Read.{fetch};
 ghost use Rattle.differences.specs.Compare.{parting};
@@ -10,46 +9,20 @@ ghost use Rattle.compare_order.specs.Whole.{WholeDisk, StartsFile};
 
 use meaning::Geometry;
 
-// Whether two parts of one length are the same. It goes to their end whatever it finds, so that a machine that can compares many bytes at
-// once.
-fn equal(a: &[u8], b: &[u8]) -> bool
-    requires { length a.now ≡ length b.now }
-    ensures { result ≡ same a.now b.now }
-{
-    let mut same = true;
-    let mut i = 0;
-    while i < a.len() {
-        same = same & (a[i] == b[i]);
-        i += 1;
-    }
-    same
-}
-
 // How many bytes at the start of two parts are alike.
 fn alike(a: &[u8], b: &[u8]) -> usize
     requires { length a.now ≡ length b.now }
     ensures { (result ≡ parting a.now b.now) × (result ≤ length a.now) }
 {
-    if equal(a, b) {
+    if a == b {
         return a.len();
     }
-    let mut i = 0;
-    while i < a.len() {
+    for i in 0..a.len() {
         if a[i] != b[i] {
             return i;
         }
-        i += 1;
     }
-    i
-}
-
-fn least(n: usize, m: usize) -> usize
-    ensures { (result ≤ n) × (result ≤ m) × (((result < n) → result ≡ m)) }
-{
-    if n < m {
-        return n;
-    }
-    m
+    a.len()
 }
 
 // So many bytes are compared in one turn, at the most: where two files part at once, no more of a long run is looked at.
@@ -60,7 +33,7 @@ fn part(x: usize, y: usize, z: usize) -> usize
     requires { (0 < x) × (0 < y) × (0 < z) }
     ensures { (0 < result) × (result ≤ x) × (result ≤ y) × (result ≤ z) }
 {
-    least(least(x, y), least(z, PART))
+    x.min(y).min(z).min(PART)
 }
 
 // The first position where the contents of two files part, or the smaller size: by as many bytes as lie in one run of both.
@@ -78,10 +51,11 @@ pub fn parting_at(
         × (n ≡ size_of g first.now s) × (m ≡ size_of h second.now t) × (n < 16777216) × (m < 16777216) }
     ensures { result ≡ parting (fetch g first.now s 0 n) (fetch h second.now t 0 m) }
 {
-    let end = least(n, m);
+    let end = n.min(m);
     let mut a = file_runs::begin(first, g, s);
     let mut b = file_runs::begin(second, h, t);
     let mut i = 0;
+    // a turn goes on by as many bytes as lie in one run of both
     while i < end {
         a = file_runs::reach(first, g, s, a, i);
         b = file_runs::reach(second, h, t, b, i);

@@ -1,4 +1,4 @@
-use Rattle.compare_bytes.proofs.Contents.{used, owned-byte, run_fits, run_is, matches-start, matches-on, matches-stop, matches-end}
+use Rattle.compare_bytes.proofs.Contents.{least-first, least-second, least-other, used, owned-byte, run_fits, run_is, matches-start, matches-on, matches-stop, matches-end}
 use Rattle.read.proofs.ReadParts.{length-fetch}
 use lib.ListN.{length}
 use mathlib.Core.Path.{sym, ap, ◌∙◌}
@@ -23,25 +23,25 @@ loop-i-init c = (
 )
 
 pub reach-a-requires : goal.reach-a-requires
-reach-a-requires c = let least = c.least-end in let a = c.args in let p = c.requires in (
+reach-a-requires c = let least = c.min-end in let a = c.args in let p = c.requires in (
   p.0.sound,
   c.loop-i.invariant.1,
   c.loop-i.invariant.2,
   c.loop-i.invariant.3,
   owned-byte _ _ _ c.loop-i.i a.n p.0 p.2 p.4
-      (omega (arith, least.ensures.0, c.loop-i-test.true)),
-  omega (arith, least.ensures.0, p.6, c.loop-i-test.true),
+      (omega (arith, (least-first _ _ least.ensures), c.loop-i-test.true)),
+  omega (arith, (least-first _ _ least.ensures), p.6, c.loop-i-test.true),
 )
 
 pub reach-b-requires : goal.reach-b-requires
-reach-b-requires c = let l = c.loop-i in let least = c.least-end in let a = c.args in let p = c.requires in (
+reach-b-requires c = let l = c.loop-i in let least = c.min-end in let a = c.args in let p = c.requires in (
   p.1.sound,
   l.invariant.4,
   l.invariant.5,
   l.invariant.6,
   owned-byte _ _ _ l.i a.m p.1 p.3 p.5
-      (omega (arith, least.ensures.1, c.loop-i-test.true)),
-  omega (arith, least.ensures.1, p.7, c.loop-i-test.true),
+      (omega (arith, (least-second _ _ least.ensures), c.loop-i-test.true)),
+  omega (arith, (least-second _ _ least.ensures), p.7, c.loop-i-test.true),
 )
 
 pub overflow_sub-a : goal.overflow_sub-a
@@ -143,13 +143,13 @@ overflow_add-result c =
     let reach = c.reach-a in
     let loop-test = c.loop-i-test in
     let l = c.loop-i in
-    let least = c.least-end in
+    let least = c.min-end in
     let a = c.args in
     let p = c.requires in
     omega (
       arith,
       c.alike-c.ensures.1,
-      least.ensures.0,
+      (least-first _ _ least.ensures),
       p.6,
       loop-test.true,
       (run_fits a.g a.first.now a.s l.i part.result reach.ensures.0 reach.ensures.1
@@ -168,9 +168,9 @@ returns-then-c-len c =
     let reach = c.reach-a in
     let loop-test = c.loop-i-test in
     let l = c.loop-i in
-    let least = c.least-end in
+    let least = c.min-end in
     let a = c.args in
-    matches-stop _ _ _ _ _ _ _ _ _ l.i part.result least.ensures.0 least.ensures.1 (omega (arith, part.ensures.3, loop-test.true))
+    matches-stop _ _ _ _ _ _ _ _ _ l.i part.result (least-first _ _ least.ensures) (least-second _ _ least.ensures) (omega (arith, part.ensures.3, loop-test.true))
     (run_is a.g a.first.now a.s l.i part.result reach.ensures.0 reach.ensures.1
     (omega (arith, part.ensures.1, reach.ensures.2)))
     (run_is a.h a.second.now a.t l.i part.result reach2.ensures.0 reach2.ensures.1
@@ -180,9 +180,9 @@ pub overflow_add-i : goal.overflow_add-i
 overflow_add-i c =
     let part = c.part-len in
     let loop-test = c.loop-i-test in
-    let least = c.least-end in
+    let least = c.min-end in
     let p = c.requires in
-    omega (arith, part.ensures.3, least.ensures.0, p.6, loop-test.true)
+    omega (arith, part.ensures.3, (least-first _ _ least.ensures), p.6, loop-test.true)
 
 pub loop-i-smaller : goal.loop-i-smaller
 loop-i-smaller c = let part = c.part-len in let loop-test = c.loop-i-test in omega (arith, part.ensures.0, part.ensures.3, loop-test.true)
@@ -194,9 +194,9 @@ loop-i-preserved c =
     let reach = c.reach-a in
     let loop-test = c.loop-i-test in
     let l = c.loop-i in
-    let least = c.least-end in
+    let least = c.min-end in
     let a = c.args in (
-      matches-on _ _ _ _ _ _ _ _ _ l.i part.result least.ensures.0 least.ensures.1 (omega (arith, part.ensures.3, loop-test.true))
+      matches-on _ _ _ _ _ _ _ _ _ l.i part.result (least-first _ _ least.ensures) (least-second _ _ least.ensures) (omega (arith, part.ensures.3, loop-test.true))
           (run_is a.g a.first.now a.s l.i part.result reach.ensures.0 reach.ensures.1
           (omega (arith, part.ensures.1, reach.ensures.2)))
           (run_is a.h a.second.now a.t l.i part.result reach2.ensures.0 reach2.ensures.1
@@ -210,4 +210,4 @@ loop-i-preserved c =
     )
 
 pub returns : goal.returns
-returns c = let least = c.least-end in matches-end _ _ _ _ _ _ _ _ _ least.ensures.0 least.ensures.1 least.ensures.2 c.loop-i-test.false c.loop-i.invariant.0
+returns c = let least = c.min-end in matches-end _ _ _ _ _ _ _ _ _ (least-first _ _ least.ensures) (least-second _ _ least.ensures) (least-other _ _ least.ensures) c.loop-i-test.false c.loop-i.invariant.0
