@@ -31,14 +31,9 @@ pub fn entry_length(image: &[u8], g: Geometry, s: usize) -> usize
     requires { Room g image.now × Slot g image.now s }
     ensures { Below 129 (length (entry_granules g image.now s)) result }
 {
-    let mut k = 0;
     let mut n = 0;
-    while k < layout::PAIRS {
-        if layout::field(image, g, s, layout::BLOCKS + 2 * k) == layout::ENDS {
-            return n;
-        }
-        n = n + (1 + layout::field(image, g, s, layout::SECONDS + 2 * k) % 32);
-        k += 1;
+    for k in 0..layout::runs(image, g, s) {
+        n += layout::run_length(image, g, s, k);
     }
     n
 }
@@ -51,15 +46,13 @@ pub fn measure(image: &[u8], g: Geometry, s: usize) -> Extent
     let mut at = s;
     let mut last = s;
     let mut owned = 0;
-    let mut left = layout::slots(image, g);
-    while 0 < left {
+    for _ in 0..layout::slots(image, g) {
         last = at;
-        owned = owned + entry_length(image, g, at);
+        owned += entry_length(image, g, at);
         if layout::field(image, g, at, layout::MARKER) != layout::HANDS_ON {
             return Extent { last, owned };
         }
         at = layout::field(image, g, at, layout::LINK);
-        left -= 1;
     }
     Extent { last, owned }
 }

@@ -1,9 +1,5 @@
 use Rattle.extent.proofs.Measuring.{CountingRuns}
-use Prim.Native.Nat.{◌-◌}
 use Rattle.extent.proofs.entry_length.Given as goal
 
 abbrev pub invariant-loop-k : goal.invariant-loop-k
 invariant-loop-k l = CountingRuns l.g l.image l.s l.k l.n
-
-abbrev pub decreases-loop-k : goal.decreases-loop-k
-decreases-loop-k l = 4 - l.k
