@@ -9,8 +9,8 @@ use borrow.Author.Tests.{eqb-true}
 use Rattle.lists.specs.Below.{all-below}
 use Rattle.meaning.specs.Bits.{put_digit}
 
-pub shl_one : (u : ℕ) → u < 8 → 1 * 2 ^ u % 256 ≡ 2 ^ u
-shl_one u h = eqb-true _ _ (all-below 8 (λ u. eqb (1 * 2 ^ u % 256) (2 ^ u)) refl u h)
+pub shl_one : (u : ℕ) → u < 8 → 1 * 2 ^ u % 18446744073709551616 ≡ 2 ^ u
+shl_one u h = eqb-true _ _ (all-below 8 (λ u. eqb (1 * 2 ^ u % 18446744073709551616) (2 ^ u)) refl u h)
 
 -- a byte by its lowest digit and the rest
 halves : (b : ℕ) → b ≡ b / 2 * 2 ^ 1 + b % 2

@@ -2,7 +2,7 @@
 use mathlib.Core.Path.{◌≡◌, refl, sym, ap, ◌∙◌}
 use mathlib.Core.List.{List, map}
 use mathlib.Core.Bool.{Bool, true, false, cond, and-true}
-use Prim.Native.Nat.{ℕ, zero, suc, ◌+◌, ◌-◌, ◌*◌, ◌/◌, ◌%◌, ◌^◌, ◌≤◌, ◌<◌}
+use Prim.Native.Nat.{ℕ, zero, suc, ◌+◌, ◌*◌, ◌/◌, ◌%◌, ◌^◌, ◌≤◌, ◌<◌}
 use native.Mathlib.Omega.{arith}
 use native.Mathlib.Nat.{add-zero, mul-le-mul, mul-le-mul_right, div-lt_iff_lt-mul, div-one, div-div-eq-div-mul, pow-succ'}
 use lib.ListN.{length, get_or, take, drop}
@@ -10,7 +10,7 @@ use lib.Seq.{drop-cons}
 use lib.Dec.{eqb, leb}
 use borrow.Author.Tests.{le-leb, lt-leb, eq-eqb, ne_eqb, eqb-true}
 use Rattle.meaning.specs.Lists.{same, all, count, has}
-use Rattle.meaning.specs.Layout.{granule_sizes, granules, fits_geometry, field, entry_at, granule_bytes, granule_sectors, sectors, most_blocks, most_units}
+use Rattle.meaning.specs.Layout.{granule_sizes, granules, fits_geometry, field, entry_at, granule_bytes, granule_sectors, most_blocks, most_units}
 use Rattle.meaning.specs.Layout.{most_granules}
 use Rattle.meaning.specs.Bits.{digit}
 use Rattle.meaning.specs.Entries.{runs_from, block, name_of}

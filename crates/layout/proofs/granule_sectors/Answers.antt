@@ -4,14 +4,14 @@ use mathlib.Core.Path.{refl}
 use Rattle.meaning.specs.Layout.{granule_sectors}
 use Rattle.layout.proofs.granule_sectors.Goals as goal
 
-pub returns-then-g-eq10 : goal.returns-then-g-eq10
+pub returns-in-10 : goal.returns-in-10
 unfolding granule_sectors
-returns-then-g-eq10 c = record { is = rw c.if-g-eq10.true refl; some = omega arith; few = omega arith }
+returns-in-10 c = record { is = rw c.in-10.is refl; some = omega arith; few = omega arith }
 
-pub returns-then-g-eq20 : goal.returns-then-g-eq20
+pub returns-in-20 : goal.returns-in-20
 unfolding granule_sectors
-returns-then-g-eq20 c = record { is = rw c.if-g-eq20.true refl; some = omega arith; few = omega arith }
+returns-in-20 c = record { is = rw c.in-20.is refl; some = omega arith; few = omega arith }
 
-pub returns : goal.returns
+pub returns-in_default : goal.returns-in_default
 unfolding granule_sectors
-returns c = record { is = fives c.if-g-eq10.false c.if-g-eq20.false; some = omega arith; few = omega arith }
+returns-in_default c = record { is = fives {n = c.args.g.granule} (λ e. omega (arith, e)) (λ e. omega (arith, e)); some = omega arith; few = omega arith }

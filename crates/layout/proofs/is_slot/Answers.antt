@@ -4,10 +4,10 @@ use Rattle.meaning.specs.Lists.{all}
 use borrow.Author.Tests.{le-ltb, lt-ltb}
 use Rattle.layout.proofs.is_slot.Goals as goal
 
-pub returns-then-s-ge256 : goal.returns-then-s-ge256
+pub returns-then-s-lt256 : goal.returns-then-s-lt256
 unfolding is_slot all
-returns-then-s-ge256 c = simp (le-ltb _ _ c.if-s-ge256.true)
+returns-then-s-lt256 c = simp (lt-ltb _ _ c.if-s-lt256.true, c.directory_sectors.ensures, and-true)
 
-pub returns : goal.returns
+pub returns-else-s-lt256 : goal.returns-else-s-lt256
 unfolding is_slot all
-returns c = simp (lt-ltb _ _ c.if-s-ge256.false, c.directory_sectors.ensures, and-true)
+returns-else-s-lt256 c = simp (le-ltb _ _ c.if-s-lt256.false)

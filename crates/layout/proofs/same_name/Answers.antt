@@ -5,14 +5,7 @@ use Rattle.layout.proofs.Number.{name-numbers}
 use Rattle.layout.proofs.same_name.Goals as goal
 
 pub returns-then-eight : goal.returns-then-eight
-returns-then-eight c = sym (name-numbers c.args.image.now c.args.name.now
-    c.args.at (omega arith) c.requires.1
-    (λ i. omega (arith, c.shared_slice_known-1.given i))
-    (λ i. omega (arith, c.shared_slice_known-2-1.given i)) ∙ simp
-    (← c.eight.ensures, ← c.eight-2.ensures, ne_eqb _ _ c.if-eight.true))
-
-pub returns : goal.returns
-returns c = sym (name-numbers c.args.image.now
+returns-then-eight c = sym (name-numbers c.args.image.now
     c.args.name.now c.args.at
     (omega arith) c.requires.1
     (λ i. omega (arith, c.shared_slice_known-1.given i))
@@ -20,6 +13,13 @@ returns c = sym (name-numbers c.args.image.now
       ← c.eight.ensures,
       ← c.eight-2.ensures,
       ← c.three.ensures,
-      ← c.three-2.ensures,
-      eq-eqb _ _ c.if-eight.false,
+      ← c.three-then-eight.ensures,
+      eq-eqb _ _ c.if-eight.true,
     ))
+
+pub returns-else-eight : goal.returns-else-eight
+returns-else-eight c = ne_eqb _ _ c.if-eight.false ∙ sym (name-numbers c.args.image.now c.args.name.now
+    c.args.at (omega arith) c.requires.1
+    (λ i. omega (arith, c.shared_slice_known-1.given i))
+    (λ i. omega (arith, c.shared_slice_known-2-1.given i)) ∙ simp
+    (← c.eight.ensures, ← c.eight-2.ensures, ne_eqb _ _ c.if-eight.false))

@@ -4,4 +4,4 @@ use Rattle.layout.proofs.three.Goals as goal
 
 pub returns : goal.returns
 returns c = let e = number-three c.args.bytes.now c.args.at (omega arith) in
-    let p = c.two.ensures.is in let q = c.wide.ensures.is in omega arith
+    let p = c.two.ensures.is in let q = c.from.ensures in omega arith
