@@ -108,11 +108,14 @@ def here():
         yield path.parts[1], path.read_text()
 
 
+def git(*words):
+    return subprocess.run(['git', *words], capture_output=True, text=True, check=True).stdout
+
+
 def at(commit):
-    names = subprocess.run(['git', 'ls-tree', '-r', '--name-only', commit, 'crates'], capture_output=True, text=True, check=True).stdout.split()
-    for name in names:
+    for name in git('ls-tree', '-r', '--name-only', commit, 'crates').split():
         if re.match(r'crates/\w+/src/\w+\.rt$', name):
-            yield name.split('/')[1], subprocess.run(['git', 'show', f'{commit}:{name}'], capture_output=True, text=True, check=True).stdout
+            yield name.split('/')[1], git('show', f'{commit}:{name}')
 
 
 words = sys.argv[1:]
