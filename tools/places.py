@@ -5,8 +5,8 @@
     tools/places.py list [KIND]  the places themselves: crate, line, text
     tools/places.py at COMMIT    the same counts of the code as it was at that commit
 
-A kind begins with its point's number. A place is counted by its text alone, so that two runs agree; whether it should change is said on the page.
-Comments, contracts and clauses are not read, but for point 5, which counts the facts of contracts.
+A kind begins with its point's number. A place is counted by its text alone, so that two runs agree; whether it should change is said on
+the page. Comments, contracts and clauses are not read, but for point 5, which counts the facts of contracts.
 """
 import re
 import subprocess
