@@ -13,6 +13,7 @@ use lib.Dec.{eqb}
 use borrow.Author.Tests.{eqb-true}
 use Rattle.meaning.specs.Lists.{through}
 use Rattle.meaning.specs.Names.{rotate, mix}
+use Rattle.std.specs.Int.{w8, rotate_left, rotate_right}
 use Rattle.lists.specs.Tests.{and_l, and_r}
 use Rattle.lists.specs.Below.{all_below, all-below}
 use Rattle.name_hash.specs.Short.{four_blanks}
@@ -81,27 +82,37 @@ pub turns-xor : (k a b : ℕ) → a < 256 → b < 256 → turns k (bit_xor a b) 
 turns-xor zero a b p q = refl
 turns-xor (suc k) a b p q = ap (turns k) (rotate-xor a b p q) ∙ turns-xor k (rotate a) (rotate b) (rotate-lt a p) (rotate-lt b q)
 
+-- as the library turns a byte
+abbrev once : ℕ → Bool
+once x = eqb (rotate_left w8 x 1) (rotate x)
+
+once-all : all_below 256 once ≡ true
+once-all = refl
+
+pub one-turn : (x : ℕ) → x < 256 → rotate_left w8 x 1 ≡ rotate x
+one-turn x p = eqb-true _ _ (all-below 256 once once-all x p)
+
 -- three turns at once, and eight, which leave a byte as it was
 abbrev turning : ℕ → Bool
-turning h = eqb (h % 32 * 8 + h / 32) (turns 3 h) && eqb (turns 8 h) h
+turning h = eqb (rotate_left w8 h 3) (turns 3 h) && eqb (turns 8 h) h
 
 turning-all : all_below 256 turning ≡ true
 turning-all = refl
 
-pub three-turns : (h : ℕ) → h < 256 → h % 32 * 8 + h / 32 ≡ turns 3 h
+pub three-turns : (h : ℕ) → h < 256 → rotate_left w8 h 3 ≡ turns 3 h
 three-turns h p = eqb-true _ _ (and_l _ _ (all-below 256 turning turning-all h p))
 
 pub eight-turns : (h : ℕ) → h < 256 → turns 8 h ≡ h
-eight-turns h p = eqb-true _ _ (and_r (eqb (h % 32 * 8 + h / 32) (turns 3 h)) _ (all-below 256 turning turning-all h p))
+eight-turns h p = eqb-true _ _ (and_r (eqb (rotate_left w8 h 3) (turns 3 h)) _ (all-below 256 turning turning-all h p))
 
 abbrev backwards : ℕ → Bool
-backwards h = eqb (h % 2 * 128 + h / 2) (turns 7 h)
+backwards h = eqb (rotate_right w8 h 1) (turns 7 h)
 
 backwards-all : all_below 256 backwards ≡ true
 backwards-all = refl
 
 -- seven turns are one to the right
-pub seven-turns : (h : ℕ) → h < 256 → h % 2 * 128 + h / 2 ≡ turns 7 h
+pub seven-turns : (h : ℕ) → h < 256 → rotate_right w8 h 1 ≡ turns 7 h
 seven-turns h p = eqb-true _ _ (all-below 256 backwards backwards-all h p)
 
 -- ---- what a run does to a value
@@ -188,7 +199,7 @@ three-run m x y z l p q r = run m (x ∷ y ∷ z ∷ []) l small
     small (suc (suc zero)) = r
     small (suc (suc (suc i))) = omega arith
 
-pub type-last : {c m : ℕ} (x y z : ℕ) → x < 256 → y < 256 → z < 256 → Beside c m (turns 5 (through mix 0 (x ∷ y ∷ z ∷ []))) → c % 32 * 8 + c / 32 ≡ through
+pub type-last : {c m : ℕ} (x y z : ℕ) → x < 256 → y < 256 → z < 256 → Beside c m (turns 5 (through mix 0 (x ∷ y ∷ z ∷ []))) → rotate_left w8 c 3 ≡ through
     mix m (x ∷ y ∷ z ∷ [])
 type-last {c} {m} x y z p q r w =
     let t = through mix 0 (x ∷ y ∷ z ∷ []) in
@@ -202,7 +213,7 @@ blanks_turned = turns 3 (through mix 0 (replicate 4 0x20))
 
 -- The same where four blanks come between: the run of blanks turns the value four times, and brings in its number.
 pub short-last : {c m : ℕ} (x y z : ℕ) → x < 256 → y < 256 → z < 256 → Beside c m (turns 1 (through mix 0 (x ∷ y ∷ z ∷ [])))
-    → bit_xor (c % 2 * 128 + c / 2) blanks_turned ≡ through mix (through mix m (replicate 4 0x20)) (x ∷ y ∷ z ∷ [])
+    → bit_xor (rotate_right w8 c 1) blanks_turned ≡ through mix (through mix m (replicate 4 0x20)) (x ∷ y ∷ z ∷ [])
 short-last {c} {m} x y z p q r w =
     let t = through mix 0 (x ∷ y ∷ z ∷ []) in
     let k = through mix 0 (replicate 4 0x20) in

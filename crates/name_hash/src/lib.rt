@@ -11,7 +11,7 @@ ghost use Rattle.name_hash.specs.Short.{four_blanks};
 fn turned(x: u8) -> u8
     ensures { result ≡ rotate x }
 {
-    x % 128 * 2 + x / 128
+    x.rotate_left(1)
 }
 
 // Bytes that are no name, one after the other.
@@ -19,10 +19,8 @@ fn all_mixed(bytes: &[u8]) -> u8
     ensures { result ≡ through mix 0 bytes.now }
 {
     let mut h = 0;
-    let mut i = 0;
-    while i < bytes.len() {
-        h = turned(h ^ bytes[i]);
-        i += 1;
+    for b in bytes {
+        h = turned(h ^ *b);
     }
     h
 }
@@ -32,16 +30,7 @@ fn four_blanks(name: &[u8]) -> bool
     requires { length name.now ≡ 11 }
     ensures { result ≡ four_blanks name.now }
 {
-    if name[4] != 0x20 {
-        return false;
-    }
-    if name[5] != 0x20 {
-        return false;
-    }
-    if name[6] != 0x20 {
-        return false;
-    }
-    name[7] == 0x20
+    name[4] == 0x20 && name[5] == 0x20 && name[6] == 0x20 && name[7] == 0x20
 }
 
 // The eleven bytes of a name. Eight turns leave a byte as it was, so the three of type turn as the first three of name do, and go in with them.
@@ -55,23 +44,24 @@ fn name_mixed(name: &[u8]) -> u8
     let h = turned(h ^ name[2] ^ name[10]);
     let h = turned(h ^ name[3]);
     if four_blanks(name) {
-        return (h % 2 * 128 + h / 2) ^ 0x1e;
+        return h.rotate_right(1) ^ 0x1e;
     }
     let h = turned(h ^ name[4]);
     let h = turned(h ^ name[5]);
     let h = turned(h ^ name[6]);
     let h = turned(h ^ name[7]);
-    h % 32 * 8 + h / 32
+    h.rotate_left(3)
 }
 
 // What the hash is before a final 0 becomes 1.
 fn mixed(name: &[u8]) -> u8
     ensures { result ≡ through mix 0 name.now }
 {
-    if name.len() != 11 {
-        return all_mixed(name);
+    if name.len() == 11 {
+        name_mixed(name)
+    } else {
+        all_mixed(name)
     }
-    name_mixed(name)
 }
 
 // The hash of a name.
@@ -79,19 +69,13 @@ pub fn hash(name: &[u8]) -> usize
     ensures { Below 256 (hash name.now) result }
 {
     let h = mixed(name);
-    if h == 0 { 1 } else { layout::wide(h) }
+    if h == 0 { 1 } else { usize::from(h) }
 }
 
 // Whether h is the hash of a name. The check asks this of every file: mostly the bytes give h as it is, and the final 0 need not be looked for.
 pub fn hashes_to(name: &[u8], h: usize) -> bool
     ensures { result ≡ eqb h (hash name.now) }
 {
-    let m = layout::wide(mixed(name));
-    if m == h {
-        return h != 0;
-    }
-    if m != 0 {
-        return false;
-    }
-    h == 1
+    let m = usize::from(mixed(name));
+    if m == h { h != 0 } else { m == 0 && h == 1 }
 }

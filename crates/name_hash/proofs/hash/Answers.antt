@@ -13,4 +13,4 @@ returns-then-h-eq0 c = let e : through mix 0 c.args.name.now ≡ 0 = sym c.mixed
 pub returns-else-h-eq0 : goal.returns-else-h-eq0
 unfolding hash
 returns-else-h-eq0 c = let a = c.args in let e : through mix 0 a.name.now ≡ c.mixed-h.result = sym c.mixed-h.ensures in
-    record { is = simp (e, ne_eqb _ _ c.if-h-eq0.false) c.wide.ensures.is; small = c.wide.ensures.small }
+    record { is = simp (e, ne_eqb _ _ c.if-h-eq0.false) c.from.ensures; small = omega arith }
