@@ -17,8 +17,9 @@ pub fn name_of(image: &[u8], g: Geometry, s: usize) -> [u8; 11]
     requires { Room g image.now × Slot g image.now s }
     ensures { result ≡ name_of g image.now s }
 {
+    let at = layout::name_at(image, g, s);
     let mut name = [0u8; 11];
-    copy::copy_into(&mut name, image, layout::name_at(image, g, s));
+    name.copy_from_slice(&image[at..at + 11]);
     name
 }
 
@@ -27,16 +28,10 @@ pub fn follows(image: &[u8], g: Geometry, flags: usize, s: usize, t: usize) -> b
     requires { Room g image.now }
     ensures { result ≡ follows_by g image.now flags s t }
 {
-    if !layout::is_slot(image, g, t) {
-        return false;
-    }
-    if layout::field(image, g, t, layout::FLAGS) != flags {
-        return false;
-    }
-    if layout::field(image, g, t, layout::BACK) != s {
-        return false;
-    }
-    1 <= layout::runs(image, g, t)
+    layout::is_slot(image, g, t)
+        && layout::field(image, g, t, layout::FLAGS) == flags
+        && layout::field(image, g, t, layout::BACK) == s
+        && 1 <= layout::runs(image, g, t)
 }
 
 // The name is well formed, and bit 5 is zero.
@@ -44,11 +39,7 @@ pub fn name_holds(image: &[u8], g: Geometry, s: usize) -> bool
     requires { Room g image.now × Slot g image.now s }
     ensures { result ≡ name_holds g image.now s }
 {
-    let name = name_of(image, g, s);
-    if !name_spelling::well_formed(&name) {
-        return false;
-    }
-    !layout::flag(image, g, s, layout::ZERO)
+    name_spelling::well_formed(&name_of(image, g, s)) && !layout::flag(image, g, s, layout::ZERO)
 }
 
 // n = 0 only with e = 0.
@@ -56,10 +47,8 @@ fn count_holds(image: &[u8], g: Geometry, s: usize) -> bool
     requires { Room g image.now × Slot g image.now s }
     ensures { result ≡ count_holds (sector_count g image.now s) (end_byte g image.now s) }
 {
-    if layout::word(image, g, s, layout::SECTOR_COUNT) != 0 {
-        return true;
-    }
-    layout::field(image, g, s, layout::END_BYTE) == 0
+    layout::word(image, g, s, layout::SECTOR_COUNT) != 0
+        || layout::field(image, g, s, layout::END_BYTE) == 0
 }
 
 // Of the first entry of a file: n = 0 only with e = 0; the size fits the granules owned.
@@ -67,10 +56,7 @@ pub fn size_holds(image: &[u8], g: Geometry, s: usize, granules: usize) -> bool
     requires { Room g image.now × Slot g image.now s × (granules < 65536) × (granules ≡ length (owned g image.now s)) }
     ensures { result ≡ size_holds g image.now s }
 {
-    if !count_holds(image, g, s) {
-        return false;
-    }
-    layout::size_of(image, g, s) <= layout::granule_bytes(g) * granules
+    count_holds(image, g, s) && layout::size_of(image, g, s) <= layout::granule_bytes(g) * granules
 }
 
 // A new entry in a slot, all 32 bytes of it, and the slot's HIT byte: of a file that is created, or of an extension.
@@ -79,6 +65,6 @@ pub fn put(image: &mut [u8], g: Geometry, s: usize, bytes: &[u8], hash: usize)
     ensures { image.new ≡ set (sets image.old (entry_at g s) bytes.now) (hit_at g s) hash }
 {
     let at = layout::entry_at(image, g, s);
-    copy::put_part(image, at, bytes, 0, 32);
+    image[at..at + 32].copy_from_slice(bytes);
     layout::set_hit(image, g, s, hash);
 }

@@ -2,5 +2,4 @@ use Rattle.entry.proofs.EntryTests.{entry-put}
 use Rattle.entry.proofs.put.Goals as goal
 
 pub returns : goal.returns
-returns c = let a = c.args in entry-put a.g a.image.now a.bytes.now a.s a.hash c.requires.2 c.entry_at-at.ensures c.put_part.ensures
-    c.set_hit.ensures
+returns c = entry-put c.args.g _ _ _ _ c.requires.2 c.requires.0 c.entry_at-at.ensures c.copy_from_slice.ensures.after c.set_hit.ensures
