@@ -13,12 +13,8 @@ pub fn allot_checked(image: &mut [u8], g: Geometry, h: Handle, k: usize, checked
     ensures { (result, image.new) ≡ allot g image.old h k }
 {
     let ranged = handle::sector_ranged(g, h, k);
-    let refused = handle::changing_number(image, g, h, ranged, 4, checked);
-    if refused != 0 {
-        return Answer {
-            refusal: refusal::carried(checked, refused),
-            handle: h,
-        };
+    if let Err(refusal) = handle::admits_changing(image, g, h, ranged, 4, checked) {
+        return Answer { refusal, handle: h };
     }
     let w = layout::granule_sectors(g);
     let number = growth::grow(image, g, h.slot, k / w + 1);

@@ -8,6 +8,7 @@ ghost use Rattle.meaning.specs.Layout.{sector_numbers};
 ghost use Rattle.meaning.specs.Refusals.{first, check, handle_refusals, not_for_reading, protected};
 ghost use Rattle.meaning.specs.Handles.{good_length, in_range, fresh};
 ghost use Rattle.layout.specs.Room.{Room};
+ghost use Rattle.refusal.specs.Passes.{Passes};
 
 use meaning::{Geometry, Handle, Refusal};
 
@@ -15,33 +16,21 @@ use meaning::{Geometry, Handle, Refusal};
 pub fn good_length(len: usize) -> bool
     ensures { result ≡ good_length len }
 {
-    if len < 1 {
-        return false;
-    }
-    len <= 256
+    1 <= len && len <= 256
 }
 
 // Position, record length and level are in range.
 pub fn in_range(g: Geometry, h: Handle) -> bool
     ensures { result ≡ in_range g h }
 {
-    if layout::highest(g) < h.at {
-        return false;
-    }
-    if !good_length(h.len) {
-        return false;
-    }
-    h.level <= 7
+    h.at <= layout::highest(g) && good_length(h.len) && h.level <= 7
 }
 
 // Test 12 of a call that names a sector.
 pub fn sector_ranged(g: Geometry, h: Handle, k: usize) -> bool
     ensures { result ≡ all (in_range g h ∷ ltb k (sector_numbers g) ∷ []) }
 {
-    if !in_range(g, h) {
-        return false;
-    }
-    k < layout::sector_numbers(g)
+    in_range(g, h) && k < layout::sector_numbers(g)
 }
 
 // Whether the handle is not stale.
@@ -49,69 +38,68 @@ pub fn fresh(image: &[u8], g: Geometry, h: Handle) -> bool
     requires { Room g image.now }
     ensures { result ≡ fresh g image.now h }
 {
-    let s = h.slot;
-    if !layout::is_slot(image, g, s) {
-        return false;
-    }
-    if !layout::primary(image, g, s) {
-        return false;
-    }
     let name = h.name;
-    layout::same_name(image, layout::name_at(image, g, s), &name)
+    layout::is_slot(image, g, h.slot)
+        && layout::primary(image, g, h.slot)
+        && layout::same_name(image, layout::name_at(image, g, h.slot), &name)
 }
 
-pub fn handle_number(image: &[u8], g: Geometry, h: Handle, ranged: bool, checked: Refusal) -> u8
+// Ok, or the refusal that is told.
+pub fn admits(
+    image: &[u8],
+    g: Geometry,
+    h: Handle,
+    ranged: bool,
+    checked: Refusal,
+) -> Result<(), Refusal>
     requires { checked ≡ check g image.now }
-    ensures { result ≡ first (handle_refusals g image.now h ranged []) }
+    ensures { Passes checked (first (handle_refusals g image.now h ranged [])) result }
 {
     if checked.number != 0 {
-        return checked.number;
+        return Err(checked);
     }
     if !ranged {
-        return 12;
+        return Err(refusal::unplaced(12));
     }
     if !fresh(image, g, h) {
-        return 7;
+        return Err(refusal::unplaced(7));
     }
-    0
+    Ok(())
 }
 
 // The same, then 6 for a call that reads.
-pub fn reading_number(image: &[u8], g: Geometry, h: Handle, ranged: bool, checked: Refusal) -> u8
+pub fn admits_reading(
+    image: &[u8],
+    g: Geometry,
+    h: Handle,
+    ranged: bool,
+    checked: Refusal,
+) -> Result<(), Refusal>
     requires { checked ≡ check g image.now }
-    ensures { result ≡ first (handle_refusals g image.now h ranged (not_for_reading h ∷ [])) }
+    ensures { Passes checked (first (handle_refusals g image.now h ranged (not_for_reading h ∷ []))) result }
 {
-    let number = handle_number(image, g, h, ranged, checked);
-    if number != 0 {
-        return number;
-    }
+    admits(image, g, h, ranged, checked)?;
     if 5 < h.level {
-        return 6;
+        return Err(refusal::unplaced(6));
     }
-    0
+    Ok(())
 }
 
 // The same, then 6 for a call that changes the disk and is allowed up to level `most`.
-pub fn changing_number(
+pub fn admits_changing(
     image: &[u8],
     g: Geometry,
     h: Handle,
     ranged: bool,
     most: usize,
     checked: Refusal,
-) -> u8
+) -> Result<(), Refusal>
     requires { checked ≡ check g image.now }
-    ensures { result ≡ first (handle_refusals g image.now h ranged (protected g image.now most h ∷ [])) }
+    ensures { Passes checked (first (handle_refusals g image.now h ranged (protected g image.now most h ∷ []))) result }
 {
-    let number = handle_number(image, g, h, ranged, checked);
-    if number != 0 {
-        return number;
+    admits(image, g, h, ranged, checked)?;
+    if most < h.level || layout::system(image, g, h.slot) {
+        return Err(refusal::unplaced(6));
     }
-    if most < h.level {
-        return 6;
-    }
-    if layout::system(image, g, h.slot) {
-        return 6;
-    }
-    0
+    Ok(())
 }

@@ -13,12 +13,8 @@ pub fn kill_checked(image: &mut [u8], g: Geometry, h: Handle, checked: Refusal) 
     ensures { (result, image.new) ≡ kill g image.old h }
 {
     let ranged = handle::in_range(g, h);
-    let number = handle::changing_number(image, g, h, ranged, 1, checked);
-    if number != 0 {
-        return Answer {
-            refusal: refusal::carried(checked, number),
-            handle: h,
-        };
+    if let Err(refusal) = handle::admits_changing(image, g, h, ranged, 1, checked) {
+        return Answer { refusal, handle: h };
     }
     space::kill_file(image, g, h.slot);
     Answer {

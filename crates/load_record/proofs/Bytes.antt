@@ -1,7 +1,7 @@
 -- A file's bytes by their places on the disk.
 use mathlib.Core.Path.{◌≡◌, refl, sym, ap, ◌∙◌}
 use mathlib.Core.List.{List, ◌++◌}
-use Prim.Native.Nat.{ℕ, ◌+◌, ◌-◌, ◌*◌, ◌≤◌, ◌<◌}
+use Prim.Native.Nat.{ℕ, ◌+◌, ◌-◌, ◌≤◌, ◌<◌}
 use native.Mathlib.Omega.{arith}
 use native.Mathlib.Nat.{zero-add}
 use lib.ListN.{length, get_or, take, drop}
@@ -14,7 +14,7 @@ use Rattle.meaning.specs.Read.{fetch}
 use Rattle.meaning.specs.Plain.{file_at}
 use Rattle.meaning.specs.declared.Geometry.{Geometry}
 use Rattle.lists.specs.Members
-use Rattle.read.specs.Part.{Owned, InGranule}
+use Rattle.read.specs.Part.{Owned}
 use Rattle.read.proofs.ReadParts.{fetch-append, length-fetch, place-fits}
 use Rattle.load.specs.Load.{bytes_of}
 use Rattle.load_record.specs.Program.{Program}

@@ -1,14 +1,14 @@
 -- The call: its refusals, and what an accepted one hands out.
 use mathlib.Core.Path.{◌≡◌, refl, sym, ap, ◌∙◌}
 use mathlib.Core.List.{List, [], ◌∷◌, ◌++◌}
-use mathlib.Core.Bool.{Bool, true, false, cond, or-false}
-use Prim.Native.Nat.{ℕ, ◌+◌, ◌≤◌, ◌<◌}
+use mathlib.Core.Bool.{Bool, true, false, or-false}
+use Prim.Native.Nat.{ℕ, ◌≤◌, ◌<◌}
 use native.Mathlib.Omega.{arith}
 use native.Mathlib.Decide.{ℕ_discrete}
 use lib.ListN.{length, take, drop}
 use lib.Dec.{eqb, ltb, leb}
-use borrow.Author.Tests.{eq-eqb, ne_eqb, eqb-true, eqb-false, ltb-true, leb-true}
-use Rattle.meaning.specs.Lists.{all, any, every, has}
+use borrow.Author.Tests.{eq-eqb, ne_eqb, eqb-true, ltb-true, leb-true}
+use Rattle.meaning.specs.Lists.{all, every, has}
 use Rattle.meaning.specs.Refusals.{first, refusal, handle_refusals, not_for_reading, by_number}
 use Rattle.meaning.specs.Handles.{in_range, moved_to}
 use Rattle.meaning.specs.Entries.{size_of}
@@ -23,7 +23,7 @@ use Rattle.load.specs.Records.{item_refusals, item_at, told_at, record_from, pas
 use Rattle.load.specs.Load.{bytes_of, most_bytes, load_numbers, asked, load_refusals, load_record}
 use Rattle.load.specs.declared.NextRecord.{NextRecord}
 use Rattle.load.specs.declared.Loaded.{Loaded}
-use Rattle.load_record.specs.Program.{Program, Found}
+use Rattle.load_record.specs.Program.{Program}
 
 -- the first of numbered cases is 0, or one of their numbers
 first-among : (p : ℕ → Bool) (cs : List (ℕ × Bool)) → p 0 ≡ true → every (λ c. p c.0) cs ≡ true → p (first cs) ≡ true

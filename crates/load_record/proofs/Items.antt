@@ -1,15 +1,14 @@
 -- What stands at a place of a load file: the tests in file order, and what a whole record or comment has.
 use mathlib.Core.Path.{◌≡◌, refl, sym, ap, ◌∙◌}
-use mathlib.Core.List.{List, [], ◌∷◌}
-use mathlib.Core.Bool.{Bool, true, false, not, cond}
-use Prim.Native.Nat.{ℕ, zero, suc, ◌+◌, ◌-◌, ◌≤◌, ◌<◌}
+use mathlib.Core.List.{List}
+use mathlib.Core.Bool.{Bool, true, false, not}
+use Prim.Native.Nat.{ℕ, ◌+◌, ◌≤◌, ◌<◌}
 use native.Mathlib.Omega.{arith}
 use native.Mathlib.Decide.{ℕ_discrete}
 use lib.ListN.{length, get_or}
-use lib.Dec.{eqb, leb, ltb}
+use lib.Dec.{eqb, leb}
 use borrow.Author.Tests.{le-leb, lt-leb, lt-ltb, le-ltb, eq-eqb, ne_eqb, ltb-false, not-false}
-use Rattle.meaning.specs.Lists.{any}
-use Rattle.meaning.specs.Refusals.{first, accepted}
+use Rattle.meaning.specs.Refusals.{first}
 use Rattle.lists.specs.Tests.{first-hit, first-skip, first-none, first-at, not_yes, not-no, is-yes, is-no, any-skip, any-one, not-both}
 use Rattle.load.specs.Records.{data_code, start_code, comment_code, is_code, data_bytes, follows, bad_count, code_at, count_at, end_of, item_refusals}
 use Rattle.load.specs.Records.{item_at, position_of}

@@ -1,17 +1,17 @@
 -- Comments are passed over, and what stands behind them is told.
-use mathlib.Core.Path.{◌≡◌, refl, sym, ap, ◌∙◌}
+use mathlib.Core.Path.{◌≡◌, refl, ◌∙◌}
 use mathlib.Core.List.{List}
-use mathlib.Core.Bool.{Bool, true, false, cond}
+use mathlib.Core.Bool.{cond}
 use Prim.Native.Nat.{ℕ, zero, suc, ◌+◌, ◌-◌, ◌*◌, ◌≤◌, ◌<◌}
 use native.Mathlib.Omega.{arith}
 use lib.ListN.{length, get_or}
 use lib.Dec.{eqb}
 use borrow.Author.Tests.{eq-eqb, ne_eqb}
-use Rattle.load.specs.Records.{data_code, comment_code, is_comment, item_at, past, told_at, record_from}
+use Rattle.load.specs.Records.{data_code, comment_code, past, told_at, record_from}
 use Rattle.load.specs.declared.Item.{Item}
 use Rattle.load.specs.declared.NextRecord.{NextRecord}
 use Rattle.load_record.specs.Program.{Looked, Found}
-use Rattle.load_record.proofs.Items.{WholeItem, whole, none-there, coded}
+use Rattle.load_record.proofs.Items.{whole, none-there, coded}
 
 -- a comment is whole; a record has its address
 pub comment-whole : (bs : List ℕ) {p : ℕ} {x : Item} → Looked bs p x → x.code ≡ comment_code → p + 2 + x.rest ≤ length bs

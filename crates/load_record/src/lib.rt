@@ -203,10 +203,7 @@ pub fn hand_out(
 pub fn load_ranged(g: Geometry, h: Handle, room: usize) -> bool
     ensures { result ≡ all (in_range g h ∷ leb most_bytes room ∷ []) }
 {
-    if !handle::in_range(g, h) {
-        return false;
-    }
-    MOST_BYTES <= room
+    handle::in_range(g, h) && MOST_BYTES <= room
 }
 
 // Load record, of a disk whose check answered `checked`.
@@ -221,10 +218,9 @@ pub fn load_checked(
     ensures { (result, buffer.new) ≡ load_record g image.now h buffer.old }
 {
     let ranged = load_ranged(g, h, buffer.len());
-    let number = handle::reading_number(image, g, h, ranged, checked);
-    if number != 0 {
+    if let Err(refusal) = handle::admits_reading(image, g, h, ranged, checked) {
         return Loaded {
-            refusal: refusal::carried(checked, number),
+            refusal,
             kind: 0,
             address: 0,
             count: 0,

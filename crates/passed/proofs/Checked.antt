@@ -1,4 +1,5 @@
 -- Refusals tested in two steps, and what a call has whose handle passed.
+use native.Mathlib.Decide.{ℕ_discrete}
 use mathlib.Core.Path.{◌≡◌, refl, sym, ap, ◌∙◌}
 use mathlib.Core.List.{List, [], ◌∷◌, ◌++◌}
 use mathlib.Core.Bool.{Bool, true, false, not}
@@ -80,6 +81,13 @@ module _ (g : Geometry) (d : List ℕ) where
   pub check-then : (rest : List (ℕ × Bool)) {c : Refusal} → c ≡ check g d → c.number ≡ 0 → first (disk_refusals g d rest) ≡ first rest
   unfolding check
   check-then rest e z = first_then (disk_refusals g d []) rest (sym (number_is e) ∙ z) refl
+
+  pub check-none : (rest : List (ℕ × Bool)) {c : Refusal} → c ≡ check g d → first (disk_refusals g d rest) ≡ 0 → c.number ≡ 0
+  check-none rest {c} e z = by (ℕ_discrete c.number 0)
+    where
+      by : Dec (c.number ≡ 0) → c.number ≡ 0
+      by (yes q) = q
+      by (no q) = check-stop rest e q ∙ z
 
   -- what goes out beside a number, on a disk whose check answered c
   pub handed : {c r : Refusal} (n : ℕ) → c ≡ check g d → r ≡ carried c n → r ≡ refusal g d n

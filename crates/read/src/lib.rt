@@ -10,6 +10,7 @@ ghost use Rattle.meaning.specs.Entries.{sector_count};
 ghost use Rattle.layout.specs.Room.{Room, Slot};
 ghost use Rattle.meaning.specs.Refusals.{first, check};
 ghost use Rattle.meaning.specs.Handles.{in_range};
+ghost use Rattle.refusal.specs.Passes.{Passes};
 ghost use Rattle.read.specs.Part.{Rest, Readable, Within, Owned, InGranule, part_of, Lies};
 
 use meaning::{Answer, Geometry, Handle, Part, Refusal};
@@ -44,8 +45,7 @@ pub fn part_of(g: Geometry, i: usize, n: usize) -> usize
     requires { 1 ≤ n }
     ensures { InGranule g i result × (1 ≤ result) × (result ≤ n) }
 {
-    let room = rest_of(g, i);
-    if n < room { n } else { room }
+    n.min(rest_of(g, i))
 }
 
 // n bytes of the file from byte i on go to the buffer's start, granule by granule.
@@ -54,6 +54,7 @@ pub fn read_bytes(image: &[u8], g: Geometry, s: usize, i: usize, n: usize, buffe
     ensures { buffer.new ≡ fetch g image.now s i n ++ drop n buffer.old }
 {
     let mut done = 0;
+    // a step takes what is left of a granule: no `for`
     while done < n {
         let m = part_of(g, i + done, n - done);
         read_part(image, g, s, i + done, m, buffer, done);
@@ -65,36 +66,27 @@ pub fn read_bytes(image: &[u8], g: Geometry, s: usize, i: usize, n: usize, buffe
 pub fn read_ranged(g: Geometry, h: Handle, n: usize, room: usize) -> bool
     ensures { result ≡ all (in_range g h ∷ leb n (highest g) ∷ leb n room ∷ []) }
 {
-    if !handle::in_range(g, h) {
-        return false;
-    }
-    if layout::highest(g) < n {
-        return false;
-    }
-    n <= room
+    handle::in_range(g, h) && n <= layout::highest(g) && n <= room
 }
 
-// The refusal number of a read of n bytes, 0 where there is none.
-pub fn read_number(
+// The tests of a read of n bytes: those of a reading call, then 10.
+pub fn admits_read(
     image: &[u8],
     g: Geometry,
     h: Handle,
     n: usize,
     room: usize,
     checked: Refusal,
-) -> u8
+) -> Result<(), Refusal>
     requires { checked ≡ check g image.now }
-    ensures { result ≡ first (read_refusals g image.now h n room) }
+    ensures { Passes checked (first (read_refusals g image.now h n room)) result }
 {
     let ranged = read_ranged(g, h, n, room);
-    let number = handle::reading_number(image, g, h, ranged, checked);
-    if number != 0 {
-        return number;
-    }
+    handle::admits_reading(image, g, h, ranged, checked)?;
     if layout::size_of(image, g, h.slot) < h.at + n {
-        return 10;
+        return Err(refusal::unplaced(10));
     }
-    0
+    Ok(())
 }
 
 // A read of n bytes, of a disk whose check answered `checked`: read record where n is the handle's record length, read bytes where it is the
@@ -110,12 +102,8 @@ pub fn read_checked(
     requires { checked ≡ check g image.now }
     ensures { (result, buffer.new) ≡ read_of g image.now h n buffer.old }
 {
-    let number = read_number(image, g, h, n, buffer.len(), checked);
-    if number != 0 {
-        return Answer {
-            refusal: refusal::carried(checked, number),
-            handle: h,
-        };
+    if let Err(refusal) = admits_read(image, g, h, n, buffer.len(), checked) {
+        return Answer { refusal, handle: h };
     }
     read_bytes(image, g, h.slot, h.at, n, buffer);
     let mut moved = h;
@@ -126,19 +114,23 @@ pub fn read_checked(
     }
 }
 
-pub fn sector_number(image: &[u8], g: Geometry, h: Handle, k: usize, checked: Refusal) -> u8
+// The tests of a read of sector k, in the same way.
+pub fn admits_sector(
+    image: &[u8],
+    g: Geometry,
+    h: Handle,
+    k: usize,
+    checked: Refusal,
+) -> Result<(), Refusal>
     requires { checked ≡ check g image.now }
-    ensures { result ≡ first (sector_refusals g image.now h k) }
+    ensures { Passes checked (first (sector_refusals g image.now h k)) result }
 {
     let ranged = handle::sector_ranged(g, h, k);
-    let number = handle::reading_number(image, g, h, ranged, checked);
-    if number != 0 {
-        return number;
-    }
+    handle::admits_reading(image, g, h, ranged, checked)?;
     if layout::word(image, g, h.slot, layout::SECTOR_COUNT) <= k {
-        return 10;
+        return Err(refusal::unplaced(10));
     }
-    0
+    Ok(())
 }
 
 // How many bytes of sector k are the file's.
@@ -162,10 +154,9 @@ pub fn sector_checked(image: &[u8], g: Geometry, h: Handle, k: usize, checked: R
     ensures is { result ≡ read_sector g image.now h k }
     ensures lies { Lies result (length image.now) }
 {
-    let number = sector_number(image, g, h, k, checked);
-    if number != 0 {
+    if let Err(refusal) = admits_sector(image, g, h, k, checked) {
         return Part {
-            refusal: refusal::carried(checked, number),
+            refusal,
             from: 0,
             to: 0,
         };

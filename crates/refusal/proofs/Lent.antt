@@ -1,6 +1,5 @@
 -- What is lent too short, case by case.
 use mathlib.Core.Path.{◌≡◌}
-use Prim.Native.Nat.{ℕ}
 use borrow.Author.Tests.{ne_eqb}
 use Rattle.meaning.specs.Refusal.{unplaced, naming}
 use Rattle.meaning.specs.declared.Refusal.{Refusal}

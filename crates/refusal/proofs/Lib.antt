@@ -1,2 +1,3 @@
 pub mod Lent
 mod Told
+pub mod Telling

@@ -2,21 +2,20 @@
 -- back as a run.
 use mathlib.Core.Path.{◌≡◌, refl, sym, ap, ap₂, ◌∙◌, subst}
 use mathlib.Core.Logic.{◌≢◌}
-use mathlib.Core.List.{List, [], ◌∷◌}
-use mathlib.Core.Bool.{Bool, true, false, ◌&&◌}
+use mathlib.Core.List.{List}
+use mathlib.Core.Bool.{true, false, ◌&&◌}
 use Prim.Native.Nat.{ℕ, zero, suc, ◌+◌, ◌-◌, ◌*◌, ◌/◌, ◌%◌, ◌≤◌, ◌<◌}
 use native.Mathlib.Omega.{arith}
 use native.Mathlib.Nat.{sub-zero}
 use native.Mathlib.Decide.{ℕ_discrete}
-use lib.ListN.{length, get_or, set, length-set}
+use lib.ListN.{length, set, length-set}
 use lib.Seq.{get_or-set_same, get_or-set_other, set-set, set_comm, set-get_or}
 use lib.Dec.{eqb}
-use Rattle.meaning.specs.Lists.{count, through, times}
+use Rattle.meaning.specs.Lists.{count, through}
 use Rattle.meaning.specs.Bits.{digit, put_digit}
 use Rattle.meaning.specs.Layout.{granules, gat_at, byte, hit_at, entry_at, field, set_field, free_granule}
 use Rattle.meaning.specs.Entries.{extension, runs, run_start, run_length, set_link}
-use Rattle.meaning.specs.Growth.{tail}
-use Rattle.meaning.specs.Drop.{unhooked, drop_one}
+use Rattle.meaning.specs.Drop.{unhooked}
 use Rattle.meaning.specs.declared.Geometry.{Geometry}
 use Rattle.laws.specs.Frame
 use Rattle.layout.specs.Room.{Room, Slot}

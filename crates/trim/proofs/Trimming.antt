@@ -2,16 +2,16 @@
 use mathlib.Core.Path.{◌≡◌, refl, sym, ap, ap₂, ◌∙◌}
 use mathlib.Core.List.{List, [], ◌∷◌}
 use mathlib.Core.Bool.{Bool, true, false, ◌&&◌}
-use Prim.Native.Nat.{ℕ, suc, ◌+◌, ◌-◌, ◌*◌, ◌/◌, ◌%◌, ◌^◌, ◌≤◌, ◌<◌}
+use Prim.Native.Nat.{ℕ, suc, ◌+◌, ◌-◌, ◌*◌, ◌≤◌, ◌<◌}
 use native.Mathlib.Omega.{arith}
 use native.Mathlib.Nat.{mul-le-mul_left}
 use lib.ListN.{length, length-append}
 use lib.Dec.{eqb, not_T}
-use borrow.Author.Tests.{ne_eqb, eq-eqb}
+use borrow.Author.Tests.{ne_eqb}
 use Rattle.meaning.specs.Lists.{times}
 use Rattle.meaning.specs.Layout.{field, set_field, free_granule, granules, granule_bytes, granules_for}
 use Rattle.lists.specs.Sizes
-use Rattle.meaning.specs.Bits.{digit, bit}
+use Rattle.meaning.specs.Bits.{bit}
 use Rattle.meaning.specs.Entries.{extension, runs, run_start, run_length, size_of, system}
 use Rattle.meaning.specs.Chain.{owned}
 use Rattle.meaning.specs.Growth.{tail}
@@ -29,7 +29,6 @@ use Rattle.laws.specs.Shorter
 use Rattle.laws.specs.DropLast
 use Rattle.laws.specs.Steps.{Ready, drop-ready}
 use Rattle.layout.specs.Room.{Room, Slot}
-use Rattle.layout.proofs.OneStep.{gat-low, digit_at}
 use Rattle.layout.proofs.HasRoom.{slot-yes}
 use Rattle.passed.proofs.Checked.{passed, passed-user}
 use Rattle.seek.specs.Seek.{Walkable, Used}
@@ -92,20 +91,6 @@ module _ (g : Geometry) (d : List ℕ) (p e : ℕ) (l : Last g d p e 1) where
         rw (z, f, y, j, v, w, q, l.last) (sym (Step.gone g d p l.ready size h' u' i')),
         j ∙ ap (λ (s : ℕ). field g d s 1) l.last ∙ sym (Step.gone-last g d p l.ready size h' u' i'),
       )
-
--- a bit as the code tests it
-bit-yes : (u : ℕ) {x y : ℕ} → x ≡ y → x / 2 ^ u % 2 ≡ 1 → bit u y ≡ true
-bit-yes u {x} {y} e h = eq-eqb (digit y u) 1 (digit_at u y ∙ rw e at h)
-
-bit-no : (u : ℕ) {x y : ℕ} → x ≡ y → (x / 2 ^ u % 2 ≡ 1 → ⊥) → bit u y ≡ false
-bit-no u {x} {y} e h = ne_eqb (digit y u) 1 (λ q. h (rw e (sym (digit_at u y) ∙ q)))
-
--- byte 00 says whether an entry is an extension
-pub extension-yes : (g : Geometry) (d : List ℕ) (s : ℕ) {x : ℕ} → x ≡ field g d s 0 → x / 2 ^ 7 % 2 ≡ 1 → extension g d s ≡ true
-extension-yes g d s e h = bit-yes 7 e h
-
-pub extension-no : (g : Geometry) (d : List ℕ) (s : ℕ) {x : ℕ} → x ≡ field g d s 0 → (x / 2 ^ 7 % 2 ≡ 1 → ⊥) → extension g d s ≡ false
-extension-no g d s e h = bit-no 7 e h
 
 -- the entry stays: it is not an extension, or the run is not its first
 pub not_first : (b : Bool) (k : ℕ) → (k ≡ 0 → ⊥) → (b && eqb k 0) ≡ false
@@ -200,14 +185,14 @@ module _ (g : Geometry) (d : List ℕ) (h : Handle) where
   unfolding trim
   refused {n} y e z = rw (← e, ne_eqb n 0 z, y)
 
-  pub kept : {n x : ℕ} {c : Refusal} → c ≡ refusal g d 0 → n ≡ first (trim_refusals g d h) → n ≡ 0 → x ≡ field g d h.slot 1 → x / 2 ^ 7 % 2 ≡ 1
-      → ◌≡◌ {A = Answer × List ℕ} (record { refusal = c; handle = h }, d) (trim g d h)
+  pub kept : {n x : ℕ} {t : Bool} {c : Refusal} → c ≡ refusal g d 0 → n ≡ first (trim_refusals g d h) → n ≡ 0 → x ≡ field g d h.slot 1 → t ≡ bit 7 x
+      → t ≡ true → ◌≡◌ {A = Answer × List ℕ} (record { refusal = c; handle = h }, d) (trim g d h)
   unfolding trim
-  kept y e z q f = rw (← e, z, bit-yes 7 q f, y)
+  kept y e z q f v = rw (← e, z, sym (ap (bit 7) q) ∙ sym f ∙ v, y)
 
-  pub trimmed : {n x m size k : ℕ} {d' : List ℕ} {c : Refusal} → c ≡ refusal g d 0 → n ≡ first (trim_refusals g d h) → n ≡ 0 → x ≡ field g d h.slot 1 →
-      (x / 2 ^ 7 % 2 ≡ 1 → ⊥)
+  pub trimmed : {n x m size k : ℕ} {t : Bool} {d' : List ℕ} {c : Refusal} → c ≡ refusal g d 0 → n ≡ first (trim_refusals g d h) → n ≡ 0
+      → x ≡ field g d h.slot 1 → t ≡ bit 7 x → t ≡ false
       → m ≡ length (owned g d h.slot) → size ≡ size_of g d h.slot → k ≡ granules_for g size → d' ≡ times (m - k) (drop_one g h.slot) d
       → ◌≡◌ {A = Answer × List ℕ} (record { refusal = c; handle = h }, d') (trim g d h)
   unfolding trim
-  trimmed y e z q f a b c w = rw (← e, z, bit-no 7 q f, w, a, c, b, y)
+  trimmed y e z q f v a b c w = rw (← e, z, sym (ap (bit 7) q) ∙ sym f ∙ v, w, a, c, b, y)

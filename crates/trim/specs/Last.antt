@@ -1,5 +1,5 @@
 -- What dropping granules asks of a disk.
-use Rattle.std.specs.Prelude.{◌≡◌, List, ℕ, ◌+◌, ◌*◌, ◌/◌, ◌<◌, ◌≤◌, length}
+use Rattle.std.specs.Prelude.{◌≡◌, List, ℕ, ◌+◌, ◌*◌, ◌≤◌, length}
 use Rattle.meaning.specs.Lists.{times}
 use Rattle.meaning.specs.Layout.{granule_bytes}
 use Rattle.meaning.specs.Entries.{size_of}

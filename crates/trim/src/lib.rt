@@ -61,18 +61,16 @@ fn drop_run(image: &mut [u8], g: Geometry, p: usize, e: usize, n: usize) -> Drop
         shorten(image, g, e, k, n);
         return Dropped { last: e, left: 0 };
     }
-    let flags = layout::field(image, g, e, layout::FLAGS);
+    let extension = layout::flag(image, g, e, layout::EXTENSION);
     let before = layout::field(image, g, e, layout::BACK);
     space::free_run(image, g, a, len);
     empty_pair(image, g, e, k);
-    if (flags >> layout::EXTENSION) % 2 == 1 {
-        if k == 0 {
-            unhook(image, g, p, e, before);
-            return Dropped {
-                last: before,
-                left: n - len,
-            };
-        }
+    if extension && k == 0 {
+        unhook(image, g, p, e, before);
+        return Dropped {
+            last: before,
+            left: n - len,
+        };
     }
     Dropped {
         last: e,
@@ -85,12 +83,10 @@ fn drop_last(image: &mut [u8], g: Geometry, p: usize, e: usize, n: usize)
     requires { Last g image.old p e n }
     ensures { image.new ≡ times n (drop_one g p) image.old }
 {
-    let mut at = e;
-    let mut left = n;
-    while 0 < left {
-        let r = drop_run(image, g, p, at, left);
-        at = r.last;
-        left = r.left;
+    let mut rest = Dropped { last: e, left: n };
+    // a step drops as many granules as a run has: no `for`
+    while 0 < rest.left {
+        rest = drop_run(image, g, p, rest.last, rest.left);
     }
 }
 
@@ -100,24 +96,16 @@ pub fn trim_checked(image: &mut [u8], g: Geometry, h: Handle, checked: Refusal) 
     ensures { (result, image.new) ≡ trim g image.old h }
 {
     let ranged = handle::in_range(g, h);
-    let number = handle::changing_number(image, g, h, ranged, 4, checked);
-    if number != 0 {
-        return Answer {
-            refusal: refusal::carried(checked, number),
-            handle: h,
-        };
+    if let Err(refusal) = handle::admits_changing(image, g, h, ranged, 4, checked) {
+        return Answer { refusal, handle: h };
     }
     let keeps = layout::field(image, g, h.slot, layout::DAY);
-    if (keeps >> layout::KEEPS_SPACE) % 2 == 1 {
-        return Answer {
-            refusal: refusal::carried(checked, 0),
-            handle: h,
-        };
+    if !layout::is_set(keeps, layout::KEEPS_SPACE) {
+        let size = layout::size_of(image, g, h.slot);
+        let needed = extent::granules_for(g, size);
+        let extent = extent::measure(image, g, h.slot);
+        drop_last(image, g, h.slot, extent.last, extent.owned - needed);
     }
-    let size = layout::size_of(image, g, h.slot);
-    let needed = extent::granules_for(g, size);
-    let extent = extent::measure(image, g, h.slot);
-    drop_last(image, g, h.slot, extent.last, extent.owned - needed);
     Answer {
         refusal: refusal::carried(checked, 0),
         handle: h,

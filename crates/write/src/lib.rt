@@ -131,12 +131,8 @@ pub fn write_checked(
     ensures { (result, image.new) ≡ write_of g image.old mode h n buffer.now }
 {
     let ranged = write_ranged(g, h, n, buffer.len());
-    let refused = handle::changing_number(image, g, h, ranged, 4, checked);
-    if refused != 0 {
-        return Answer {
-            refusal: refusal::carried(checked, refused),
-            handle: h,
-        };
+    if let Err(refusal) = handle::admits_changing(image, g, h, ranged, 4, checked) {
+        return Answer { refusal, handle: h };
     }
     let old = layout::size_of(image, g, h.slot);
     let end = h.at + n;

@@ -1,14 +1,14 @@
 use Prim.Native.Nat.{◌<◌, ◌/◌, ◌^◌}
 use Rattle.lists.specs.Sizes.{width-lt}
+use mathlib.Core.Path.{refl}
 use native.Mathlib.Omega.{arith}
 use Rattle.growth.proofs.Handed.{ready}
 use Rattle.allot.proofs.Allotting.{refused, grew}
 use Rattle.passed.proofs.Checked.{handed}
 use Rattle.allot.proofs.allot_checked.Goals as goal
 
-pub returns-then-refused-ne0 : goal.returns-then-refused-ne0
-returns-then-refused-ne0 c = let sector-ranged = c.sector_ranged-ranged in let p = c.requires in
-    refused _ _ _ _ sector-ranged.ensures (handed _ _ _ p c.carried.ensures) c.changing_number-refused.ensures c.if-refused-ne0.true
+pub returns-in-Err : goal.returns-in-Err
+returns-in-Err c = let e = c.in-Err.ensures in refused _ _ _ _ c.sector_ranged-ranged.ensures (handed _ _ _ c.requires e.0) refl e.1
 
 pub overflow_add-k : goal.overflow_add-k
 overflow_add-k c = let w = c.granule_sectors-w in let q : c.args.k / w.result < 2 ^ 63 = width-lt (omega (arith, w.ensures.some))
@@ -17,10 +17,9 @@ overflow_add-k c = let w = c.granule_sectors-w in let q : c.args.k / w.result < 
 
 pub grow-number-requires : goal.grow-number-requires
 grow-number-requires c = let a = c.args in ready a.g a.image.now a.h c.sector_ranged-ranged.result 4
-    c.changing_number-refused.ensures c.if-refused-ne0.false
+    refl c.in_default.ensures
 
 pub returns : goal.returns
-returns c = let grow = c.grow-number in let granule-sectors = c.granule_sectors-w in let if1 = c.if-refused-ne0 in
-    let changing-number = c.changing_number-refused in let sector-ranged = c.sector_ranged-ranged in let p = c.requires in
-    grew _ _ _ _ sector-ranged.ensures granule-sectors.ensures.is (handed _ _ _ p c.carried-2.ensures) changing-number.ensures if1.false
+returns c = let grow = c.grow-number in let granule-sectors = c.granule_sectors-w in let sector-ranged = c.sector_ranged-ranged in let p = c.requires in
+    grew _ _ _ _ sector-ranged.ensures granule-sectors.ensures.is (handed _ _ _ p c.carried.ensures) refl c.in_default.ensures
     grow.ensures.0 grow.ensures.1

@@ -4,37 +4,44 @@ use Prim.Native.Nat.{ℕ}
 use lib.ListN.{take, drop}
 use Rattle.meaning.specs.Lists.{same}
 use Rattle.layout.proofs.HasRoom.{slot-of}
-use Rattle.lists.specs.Tests.{all_yes, all-no, all_one, is-false, is-true}
+use Rattle.lists.specs.Tests.{all_yes, all-no, all_one, not-both}
 use Rattle.layout.proofs.OneStep.{name-at}
 use Rattle.meaning.specs.Handles.{fresh}
 use borrow.Author.Rules.{rules}
 use Rattle.handle.proofs.fresh.Goals as goal
-
-pub returns-then-not-is_slot : goal.returns-then-not-is_slot
-unfolding fresh
-returns-then-not-is_slot c = sym (all-no (is-false c.is_slot.ensures c.if-not-is_slot.true) _)
+use Rattle.handle.proofs.fresh.Goals.{then-is_slot, else-is_slot}
 
 pub primary-requires : goal.primary-requires
-primary-requires c = (c.requires, slot-of _ _ _ (is-true c.is_slot.ensures c.if-not-is_slot.false))
-
-pub returns-then-not-primary : goal.returns-then-not-primary
-unfolding fresh
-returns-then-not-primary c = sym (all_yes (is-true c.is_slot.ensures c.if-not-is_slot.false) _ ∙ all-no
-    (is-false c.primary.ensures c.if-not-primary.true) _)
+primary-requires c = (c.requires, slot-of _ _ _ (sym c.is_slot.ensures ∙ c.if-is_slot.true))
 
 pub name_at-requires : goal.name_at-requires
-name_at-requires c = let q = slot-of _ _ _ (is-true c.is_slot.ensures c.if-not-is_slot.false) in
-    omega arith
+name_at-requires c = elim c.if-is_slot.branch [
+  | then-is_slot w ↦ let q = slot-of _ _ _ (sym c.is_slot.ensures ∙ w.if-is_slot.true) in omega arith
+  | else-is_slot w ↦ not-both c.if-primary.true (w.value-is ∙ w.if-is_slot.false)
+]
 
 pub same_name-requires : goal.same_name-requires
-same_name-requires c = let q = slot-of _ _ _
-    (is-true c.is_slot.ensures c.if-not-is_slot.false) in
-    (omega arith, search rules)
+same_name-requires c = elim c.if-is_slot.branch [
+  | then-is_slot w ↦ let q = slot-of _ _ _ (sym c.is_slot.ensures ∙ w.if-is_slot.true) in (omega arith, search rules)
+  | else-is_slot w ↦ not-both c.if-primary.true (w.value-is ∙ w.if-is_slot.false)
+]
 
-pub returns : goal.returns
+pub returns-then-primary : goal.returns-then-primary
 unfolding fresh
-returns c = let there = is-true c.is_slot.ensures c.if-not-is_slot.false in
-    let a = c.args in let q = slot-of _ _ _ there in
-    sym (all_yes there _ ∙ all_yes (is-true c.primary.ensures c.if-not-primary.false) _ ∙ all_one _ ∙
-    name-at a.g a.image.now a.h.name a.h.slot (omega arith) ∙
-    ap (λ (x : ℕ). same (take 11 (drop x a.image.now)) a.h.name) (sym c.name_at.ensures) ∙ sym c.same_name.ensures)
+returns-then-primary c = elim c.if-is_slot.branch [
+  | then-is_slot w ↦
+      let there = sym c.is_slot.ensures ∙ w.if-is_slot.true in
+      let a = c.args in let q = slot-of _ _ _ there in
+      sym (all_yes there _ ∙ all_yes (sym w.primary.ensures ∙ sym w.value-is ∙ c.if-primary.true) _ ∙ all_one _ ∙
+      name-at a.g a.image.now a.h.name a.h.slot (omega arith) ∙
+      ap (λ (x : ℕ). same (take 11 (drop x a.image.now)) a.h.name) (sym c.name_at.ensures) ∙ sym c.same_name.ensures)
+  | else-is_slot w ↦ not-both c.if-primary.true (w.value-is ∙ w.if-is_slot.false)
+]
+
+pub returns-else-primary : goal.returns-else-primary
+unfolding fresh
+returns-else-primary c = elim c.if-is_slot.branch [
+  | then-is_slot w ↦
+      c.if-primary.false ∙ sym (all_yes (sym c.is_slot.ensures ∙ w.if-is_slot.true) _ ∙ all-no (sym w.primary.ensures ∙ sym w.value-is ∙ c.if-primary.false) _)
+  | else-is_slot w ↦ c.if-primary.false ∙ sym (all-no (sym c.is_slot.ensures ∙ w.if-is_slot.false) _)
+]

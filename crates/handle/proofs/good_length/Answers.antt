@@ -4,10 +4,10 @@ use borrow.Author.Tests.{le-leb, lt-leb}
 use mathlib.Core.Path.{sym, ◌∙◌}
 use Rattle.handle.proofs.good_length.Goals as goal
 
-pub returns-then-len-lt1 : goal.returns-then-len-lt1
+pub returns-then-len-ge1 : goal.returns-then-len-ge1
 unfolding good_length
-returns-then-len-lt1 c = sym (all-no (lt-leb _ _ c.if-len-lt1.true) _)
+returns-then-len-ge1 c = sym (all_yes (le-leb _ _ c.if-len-ge1.true) _ ∙ all_one _)
 
-pub returns : goal.returns
+pub returns-else-len-ge1 : goal.returns-else-len-ge1
 unfolding good_length
-returns c = sym (all_yes (le-leb _ _ c.if-len-lt1.false) _ ∙ all_one _)
+returns-else-len-ge1 c = let e = lt-leb _ _ c.if-len-ge1.false in e ∙ sym (all-no e _)

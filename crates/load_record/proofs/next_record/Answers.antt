@@ -1,6 +1,5 @@
 use Rattle.load_record.proofs.Passing.{comment-whole, passing-start, passing_step, passing-end, told-whole}
 use Rattle.load_record.proofs.Bytes.{long}
-use Prim.Native.Nat.{◌-◌}
 use native.Mathlib.Omega.{arith}
 use Rattle.load_record.proofs.next_record.Goals as goal
 

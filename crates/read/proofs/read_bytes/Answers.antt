@@ -1,5 +1,4 @@
 use Rattle.read.proofs.ReadParts.{reading-start, reading_step, reading-end, owned-part}
-use Prim.Native.Nat.{◌-◌}
 use mathlib.Core.Path.{refl}
 use borrow.Author.Rules.{rules}
 use native.Mathlib.Omega.{arith}

@@ -1,15 +1,18 @@
-use Rattle.lists.specs.Tests.{is-false, is-true, all_yes, all-no, all_one}
-use borrow.Author.Tests.{lt-leb, le-leb}
+use Rattle.lists.specs.Tests.{all_yes, all-no, all_one, not-both}
 use mathlib.Core.Path.{sym, ◌∙◌}
 use Rattle.read.proofs.read_ranged.Goals as goal
+use Rattle.read.proofs.read_ranged.Goals.{then-in_range, else-in_range}
 
-pub returns-then-not-in_range : goal.returns-then-not-in_range
-returns-then-not-in_range c = sym (all-no (is-false c.in_range.ensures c.if-not-in_range.true) _)
+pub returns-then-n-highest : goal.returns-then-n-highest
+returns-then-n-highest c = let t = c.if-n-highest in elim c.if-in_range.branch [
+  | then-in_range w ↦
+      rw (← w.highest.ensures.is) (sym (all_yes (sym c.in_range.ensures ∙ w.if-in_range.true) _ ∙ all_yes (sym w.value-is ∙ t.true) _ ∙ all_one _))
+  | else-in_range w ↦ not-both t.true (w.value-is ∙ w.if-in_range.false)
+]
 
-pub returns-then-highest-n : goal.returns-then-highest-n
-returns-then-highest-n c =
-    rw (← c.highest.ensures.is) (sym (all_yes (is-true c.in_range.ensures c.if-not-in_range.false) _ ∙ all-no (lt-leb _ _ c.if-highest-n.true) _))
-
-pub returns : goal.returns
-returns c = rw (← c.highest.ensures.is)
-    (sym (all_yes (is-true c.in_range.ensures c.if-not-in_range.false) _ ∙ all_yes (le-leb _ _ c.if-highest-n.false) _ ∙ all_one _))
+pub returns-else-n-highest : goal.returns-else-n-highest
+returns-else-n-highest c = let t = c.if-n-highest in elim c.if-in_range.branch [
+  | then-in_range w ↦
+      rw (← w.highest.ensures.is) (t.false ∙ sym (all_yes (sym c.in_range.ensures ∙ w.if-in_range.true) _ ∙ all-no (sym w.value-is ∙ t.false) _))
+  | else-in_range w ↦ t.false ∙ sym (all-no (sym c.in_range.ensures ∙ w.if-in_range.false) _)
+]

@@ -1,36 +1,36 @@
 use Rattle.read.proofs.ReadParts.{sector, sector-refused, sector-accepted, sector-lies}
+use mathlib.Core.Path.{refl}
 use native.Mathlib.Omega.{arith}
 use Rattle.passed.proofs.Checked.{handed}
 use Rattle.read.proofs.sector_checked.Goals as goal
 
-pub returns-then-number-ne0 : goal.returns-then-number-ne0
-returns-then-number-ne0 c = record {
-  is = sector-refused _ _ _ _ (handed _ _ _ c.requires c.carried.ensures) c.sector_number-number.ensures
-      c.if-number-ne0.true;
+pub returns-in-Err : goal.returns-in-Err
+returns-in-Err c = let e = c.in-Err.ensures in record {
+  is = sector-refused _ _ _ _ (handed _ _ _ c.requires e.0) refl e.1;
   lies = record { forward = omega arith; inside = omega arith };
 }
 
 pub overflow_mul-k : goal.overflow_mul-k
-overflow_mul-k c = let a = c.args in let q = sector a.g a.image.now a.h a.k c.sector_number-number.ensures c.if-number-ne0.false in let l = q.low in omega arith
+overflow_mul-k c = let a = c.args in let q = sector a.g a.image.now a.h a.k refl c.in_default.ensures in let l = q.low in omega arith
 
 pub place-from-requires : goal.place-from-requires
-place-from-requires c = let a = c.args in let q = sector a.g a.image.now a.h a.k c.sector_number-number.ensures c.if-number-ne0.false in let l = q.low in
+place-from-requires c = let a = c.args in let q = sector a.g a.image.now a.h a.k refl c.in_default.ensures in let l = q.low in
     (q.file.sound, q.file.used, omega arith)
 
 pub sector_bytes-n-requires : goal.sector_bytes-n-requires
-sector_bytes-n-requires c = let a = c.args in let q = sector a.g a.image.now a.h a.k c.sector_number-number.ensures c.if-number-ne0.false in let l = q.low in
+sector_bytes-n-requires c = let a = c.args in let q = sector a.g a.image.now a.h a.k refl c.in_default.ensures in let l = q.low in
     (q.file.sound.room, q.file.used.slot, q.held, omega arith)
 
 pub overflow_add-to : goal.overflow_add-to
-overflow_add-to c = let a = c.args in let q = sector a.g a.image.now a.h a.k c.sector_number-number.ensures c.if-number-ne0.false in
+overflow_add-to c = let a = c.args in let q = sector a.g a.image.now a.h a.k refl c.in_default.ensures in
     let l = sector-lies a.g a.image.now a.h a.k q c.sector_bytes-n.ensures.0 c.sector_bytes-n.ensures.1 in
     omega (arith, c.place-from.ensures)
 
 pub returns : goal.returns
-returns c = let a = c.args in let q = sector a.g a.image.now a.h a.k c.sector_number-number.ensures c.if-number-ne0.false in
+returns c = let a = c.args in let q = sector a.g a.image.now a.h a.k refl c.in_default.ensures in
     let l = sector-lies a.g a.image.now a.h a.k q c.sector_bytes-n.ensures.0 c.sector_bytes-n.ensures.1 in record {
-      is = sector-accepted _ _ _ _ (handed _ _ 0 c.requires c.carried-2.ensures)
-          c.sector_number-number.ensures c.if-number-ne0.false c.place-from.ensures
+      is = sector-accepted _ _ _ _ (handed _ _ 0 c.requires c.carried.ensures)
+          refl c.in_default.ensures c.place-from.ensures
           c.sector_bytes-n.ensures.0;
       lies = record { forward = omega arith; inside = omega (arith, c.place-from.ensures) };
     }

@@ -1,8 +1,8 @@
 use Rattle.trim.specs.Last.{Dropping}
 use Rattle.trim.proofs.drop_last.Given as goal
 
-abbrev pub invariant-loop-left : goal.invariant-loop-left
-invariant-loop-left l = Dropping l.g l.p l.initial.image l.n l.image l.at l.left
+abbrev pub invariant-loop-rest : goal.invariant-loop-rest
+invariant-loop-rest l = Dropping l.g l.p l.initial.image l.n l.image l.rest.last l.rest.left
 
-abbrev pub decreases-loop-left : goal.decreases-loop-left
-decreases-loop-left l = l.left
+abbrev pub decreases-loop-rest : goal.decreases-loop-rest
+decreases-loop-rest l = l.rest.left

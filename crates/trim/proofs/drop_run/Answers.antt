@@ -1,10 +1,11 @@
+use mathlib.Core.Path.{sym, ◌∙◌}
 use Rattle.trim.proofs.Runs.{one_of, on-disk, short-fits, gone-fits, hook-fits, run-stays, run-goes, entry-goes, fewer-left}
-use Rattle.trim.proofs.Trimming.{last-reads, last-run, not_first, is-first, extension-yes, extension-no}
+use Rattle.trim.proofs.Trimming.{last-reads, last-run, not_first, is-first}
 use Rattle.meaning.specs.Entries.{extension}
 use native.Mathlib.Omega.{arith}
 use Prim.Native.Nat.{◌-◌}
 use Rattle.trim.proofs.drop_run.Goals as goal
-use Rattle.trim.proofs.drop_run.Goals.{then-flags-eq1+else-k-eq0, else-flags-eq1}
+use Rattle.trim.proofs.drop_run.Goals.{else-extension-via-then-extension+else-k-eq0, else-extension-via-else-extension}
 
 pub runs-k-requires : goal.runs-k-requires
 runs-k-requires c = last-reads _ _ _ _ (one_of c.requires.0 c.requires.1)
@@ -49,11 +50,8 @@ returns-then-n-len c = let free-run = c.free_run in let if1 = c.if-n-len in let 
       p.1,
     )
 
-pub field-flags-requires : goal.field-flags-requires
-field-flags-requires c = let l = last-reads _ _ _ _
-    (one_of c.requires.0
-    c.requires.1) in
-    (l.0, l.1, omega arith)
+pub flag-extension-requires : goal.flag-extension-requires
+flag-extension-requires c = let l = last-reads _ _ _ _ (one_of c.requires.0 c.requires.1) in (l.0, l.1, omega arith)
 
 pub field-before-requires : goal.field-before-requires
 field-before-requires c = let l = last-reads _ _ _ _
@@ -70,34 +68,32 @@ empty_pair-requires c = let free-run2 = c.free_run-2 in let run-start = c.run_st
     let p = c.requires in gone-fits _ _ _ _ _ p.0 p.1 runs.ensures.is run_length.ensures.is run-start.ensures.is free-run2.ensures
 
 pub unhook-requires : goal.unhook-requires
-unhook-requires c = let empty-pair = c.empty_pair in let free-run2 = c.free_run-2 in let field2 = c.field-before in let field = c.field-flags in
+unhook-requires c = let empty-pair = c.empty_pair in let free-run2 = c.free_run-2 in let field2 = c.field-before in let flag = c.flag-extension in
     let run-start = c.run_start-a in let a = c.args in hook-fits _ _ _ _ _ c.requires.0
     c.requires.1
     c.runs-k.ensures.is c.run_length-len.ensures.is
     run-start.ensures.is free-run2.ensures
     empty-pair.ensures
-    (extension-yes a.g a.image.now a.e
-    field.ensures.is
-    c.if-flags-eq1.true) field2.ensures.is
+    (sym flag.ensures ∙ c.if-extension.true) field2.ensures.is
 
 pub returns-then-k-eq0 : goal.returns-then-k-eq0
-returns-then-k-eq0 c = let if3 = c.if-k-eq0 in let if2 = c.if-flags-eq1 in let empty-pair = c.empty_pair in let free-run2 = c.free_run-2 in
-    let field2 = c.field-before in let field = c.field-flags in let if1 = c.if-n-len in let run-start = c.run_start-a in
+returns-then-k-eq0 c = let if3 = c.if-k-eq0 in let if2 = c.if-extension in let empty-pair = c.empty_pair in let free-run2 = c.free_run-2 in
+    let field2 = c.field-before in let flag = c.flag-extension in let if1 = c.if-n-len in let run-start = c.run_start-a in
     let run_length = c.run_length-len in let runs = c.runs-k in let a = c.args in let p = c.requires in (
       entry-goes _ _ _ _ _ p.0 p.1 runs.ensures.is run_length.ensures.is run-start.ensures.is if1.false free-run2.ensures
-          empty-pair.ensures c.unhook.ensures (extension-yes a.g a.image.now a.e field.ensures.is if2.true)
+          empty-pair.ensures c.unhook.ensures (sym flag.ensures ∙ c.if-extension.true)
           if3.true field2.ensures.is,
       fewer-left _ _ _ _ _ p.0 p.1 runs.ensures.is run_length.ensures.is run-start.ensures.is
           if1.false,
     )
 
 pub returns : goal.returns
-returns c = let empty-pair = c.empty_pair in let free-run2 = c.free_run-2 in let field = c.field-flags in let if1 = c.if-n-len in
+returns c = let empty-pair = c.empty_pair in let free-run2 = c.free_run-2 in let flag = c.flag-extension in let if1 = c.if-n-len in
     let run-start = c.run_start-a in let run_length = c.run_length-len in let runs = c.runs-k in let a = c.args in let p = c.requires in (
       run-goes _ _ _ _ _ p.0 p.1 runs.ensures.is run_length.ensures.is run-start.ensures.is if1.false free-run2.ensures
-          empty-pair.ensures (elim c.if-flags-eq1.branch [
-            | then-flags-eq1+else-k-eq0 w ↦ not_first (extension a.g a.image.now a.e) (runs.result - 1) w.if-k-eq0.false
-            | else-flags-eq1 w ↦ is-first (extension-no a.g a.image.now a.e field.ensures.is w.if-flags-eq1.false) (runs.result - 1)
+          empty-pair.ensures (elim c.else-extension.branch [
+            | else-extension-via-then-extension+else-k-eq0 w ↦ not_first (extension a.g a.image.now a.e) (runs.result - 1) w.if-k-eq0.false
+            | else-extension-via-else-extension w ↦ is-first (sym flag.ensures ∙ w.if-extension.false) (runs.result - 1)
           ]),
       fewer-left _ _ _ _ _
           p.0 p.1 runs.ensures.is run_length.ensures.is run-start.ensures.is if1.false,

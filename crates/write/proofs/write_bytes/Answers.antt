@@ -2,7 +2,7 @@ use Rattle.write.proofs.Parts.{storing-start, bytes-step, stored}
 use Rattle.read.proofs.ReadParts.{place-fits, owned-part}
 use Rattle.seek.proofs.Frame.{same-sound, same-used, same_place}
 use lib.ListN.{take}
-use Prim.Native.Nat.{ℕ, ◌-◌, ◌+◌, ◌≤◌}
+use Prim.Native.Nat.{ℕ, ◌+◌, ◌≤◌}
 use mathlib.Core.Path.{◌≡◌, ◌∙◌, ap}
 use native.Mathlib.Omega.{arith}
 use Rattle.write.proofs.write_bytes.Goals as goal

@@ -8,30 +8,27 @@ use mathlib.Core.Path.{refl}
 use native.Mathlib.Omega.{arith}
 use Rattle.write.proofs.write_checked.Goals as goal
 
-pub returns-then-refused-ne0 : goal.returns-then-refused-ne0
-returns-then-refused-ne0 c = let a = c.args in let the-write-ranged = c.write_ranged-ranged in let p = c.requires in
-    refused a.g a.image.now a.mode a.h a.n a.buffer.now the-write-ranged.ensures (handed _ _ _ p c.carried.ensures)
-    c.changing_number-refused.ensures c.if-refused-ne0.true
+pub returns-in-Err : goal.returns-in-Err
+returns-in-Err c = let a = c.args in let e = c.in-Err.ensures in
+    refused a.g a.image.now a.mode a.h a.n a.buffer.now c.write_ranged-ranged.ensures (handed _ _ _ c.requires e.0) refl e.1
 
 pub size_of-old-requires : goal.size_of-old-requires
 size_of-old-requires c = let a = c.args in let the-write-ranged = c.write_ranged-ranged in
     let w = passed a.g a.image.now a.h the-write-ranged.result (protected a.g a.image.now 4 a.h ∷ []) refl
-    c.changing_number-refused.ensures c.if-refused-ne0.false in
+    refl c.in_default.ensures in
     (checked-room _ _ w.disk, w.slot)
 
 pub overflow_add-end : goal.overflow_add-end
-overflow_add-end c = let args = c.args in let the-write-ranged = c.write_ranged-ranged in let the-changing-number = c.changing_number-refused in
-    let f = fit args.g args.image.now args.mode args.h args.n args.buffer.now the-write-ranged.ensures the-changing-number.ensures
-    c.if-refused-ne0.false in
+overflow_add-end c = let args = c.args in let the-write-ranged = c.write_ranged-ranged in
+    let f = fit args.g args.image.now args.mode args.h args.n args.buffer.now the-write-ranged.ensures refl c.in_default.ensures in
     let a = f.ends in
     omega arith
 
 pub grow_to-number-requires : goal.grow_to-number-requires
 grow_to-number-requires c = let args = c.args in let the-write-ranged = c.write_ranged-ranged in
-    let the-changing-number = c.changing_number-refused in let the-if1 = c.if-refused-ne0 in let the-size-of = c.size_of-old in
-    let y = ready args.g args.image.now args.h the-write-ranged.result 4 the-changing-number.ensures the-if1.false in
-    let f = fit args.g args.image.now args.mode args.h args.n args.buffer.now the-write-ranged.ensures the-changing-number.ensures
-    the-if1.false in
+    let the-size-of = c.size_of-old in
+    let y = ready args.g args.image.now args.h the-write-ranged.result 4 refl c.in_default.ensures in
+    let f = fit args.g args.image.now args.mode args.h args.n args.buffer.now the-write-ranged.ensures refl c.in_default.ensures in
     let a = f.ends in
     let b = the-size-of.ensures.small in
     let z = sizes-low args.mode the-size-of.result (args.h.at + args.n) in
@@ -39,22 +36,22 @@ grow_to-number-requires c = let args = c.args in let the-write-ranged = c.write_
 
 pub returns-then-number-ne0 : goal.returns-then-number-ne0
 returns-then-number-ne0 c = let a = c.args in let the-write-ranged = c.write_ranged-ranged in let the-size-of = c.size_of-old in
-    let the-size-after = c.size_after-size in let p = c.requires in let the-changing-number = c.changing_number-refused in
-    let the-if1 = c.if-refused-ne0 in let the-grow-to = c.grow_to-number in
+    let the-size-after = c.size_after-size in let p = c.requires in
+    let the-grow-to = c.grow_to-number in
     let s = size_is a.g a.image.now a.mode a.h a.n a.buffer.now the-write-ranged.ensures the-size-of.ensures.is
     the-size-after.ensures in
-    not-grown a.g a.image.now a.mode a.h a.n a.buffer.now the-write-ranged.ensures (handed _ _ _ p c.carried-then-number-ne0.ensures)
-    the-changing-number.ensures the-if1.false (number_is a.g a.image.now a.mode a.h a.n a.buffer.now the-write-ranged.ensures s
+    not-grown a.g a.image.now a.mode a.h a.n a.buffer.now the-write-ranged.ensures (handed _ _ _ p c.carried.ensures)
+    refl c.in_default.ensures (number_is a.g a.image.now a.mode a.h a.n a.buffer.now the-write-ranged.ensures s
     the-grow-to.ensures.0) c.if-number-ne0.true (image-is a.g a.image.now a.mode a.h a.n a.buffer.now the-write-ranged.ensures
     the-grow-to.result s the-grow-to.ensures.1)
 
 pub put_record-requires : goal.put_record-requires
 put_record-requires c = let a = c.args in let the-write-ranged = c.write_ranged-ranged in let the-size-of = c.size_of-old in
-    let the-size-after = c.size_after-size in let the-changing-number = c.changing_number-refused in let the-if1 = c.if-refused-ne0 in
+    let the-size-after = c.size_after-size in
     let the-grow-to = c.grow_to-number in let s = size_is a.g a.image.now a.mode a.h a.n a.buffer.now the-write-ranged.ensures the-size-of.ensures.is
     the-size-after.ensures in
-    let y = ready a.g a.image.now a.h the-write-ranged.result 4 the-changing-number.ensures the-if1.false in
-    let f = fit a.g a.image.now a.mode a.h a.n a.buffer.now the-write-ranged.ensures the-changing-number.ensures the-if1.false
+    let y = ready a.g a.image.now a.h the-write-ranged.result 4 refl c.in_default.ensures in
+    let f = fit a.g a.image.now a.mode a.h a.n a.buffer.now the-write-ranged.ensures refl c.in_default.ensures
     in
     let w = stores a.g a.image.now a.mode a.h a.n a.buffer.now the-write-ranged.ensures y f (number_is a.g a.image.now
     a.mode a.h a.n a.buffer.now the-write-ranged.ensures s the-grow-to.ensures.0) c.if-number-ne0.false (image-is a.g
@@ -70,12 +67,12 @@ put_record-requires c = let a = c.args in let the-write-ranged = c.write_ranged-
 
 pub put_size-requires : goal.put_size-requires
 put_size-requires c = let a = c.args in let the-write-ranged = c.write_ranged-ranged in let the-size-of = c.size_of-old in
-    let the-size-after = c.size_after-size in let the-changing-number = c.changing_number-refused in let the-if1 = c.if-refused-ne0 in
+    let the-size-after = c.size_after-size in
     let the-grow-to = c.grow_to-number in let the-if2 = c.if-number-ne0 in
     let s = size_is a.g a.image.now a.mode a.h a.n a.buffer.now the-write-ranged.ensures the-size-of.ensures.is
     the-size-after.ensures in
-    let y = ready a.g a.image.now a.h the-write-ranged.result 4 the-changing-number.ensures the-if1.false in
-    let f = fit a.g a.image.now a.mode a.h a.n a.buffer.now the-write-ranged.ensures the-changing-number.ensures the-if1.false
+    let y = ready a.g a.image.now a.h the-write-ranged.result 4 refl c.in_default.ensures in
+    let f = fit a.g a.image.now a.mode a.h a.n a.buffer.now the-write-ranged.ensures refl c.in_default.ensures
     in
     let w = stores a.g a.image.now a.mode a.h a.n a.buffer.now the-write-ranged.ensures y f (number_is a.g a.image.now
     a.mode a.h a.n a.buffer.now the-write-ranged.ensures s the-grow-to.ensures.0) the-if2.false (image-is a.g a.image.now
@@ -85,12 +82,12 @@ put_size-requires c = let a = c.args in let the-write-ranged = c.write_ranged-ra
 
 pub returns : goal.returns
 returns c = let a = c.args in let the-write-ranged = c.write_ranged-ranged in let the-size-of = c.size_of-old in
-    let the-size-after = c.size_after-size in let p = c.requires in let the-changing-number = c.changing_number-refused in
-    let the-if1 = c.if-refused-ne0 in let the-grow-to = c.grow_to-number in let the-if2 = c.if-number-ne0 in let the-put-record = c.put_record in
+    let the-size-after = c.size_after-size in let p = c.requires in
+    let the-grow-to = c.grow_to-number in let the-if2 = c.if-number-ne0 in let the-put-record = c.put_record in
     let s = size_is a.g a.image.now a.mode a.h a.n a.buffer.now the-write-ranged.ensures the-size-of.ensures.is
     the-size-after.ensures in
     written a.g a.image.now a.mode a.h a.n a.buffer.now the-write-ranged.ensures (handed _ _ 0 p c.carried-2.ensures)
-    the-size-of.ensures.is the-changing-number.ensures the-if1.false (number_is a.g a.image.now a.mode a.h a.n a.buffer.now
+    the-size-of.ensures.is refl c.in_default.ensures (number_is a.g a.image.now a.mode a.h a.n a.buffer.now
     the-write-ranged.ensures s the-grow-to.ensures.0) the-if2.false (image-is a.g a.image.now a.mode a.h a.n a.buffer.now
     the-write-ranged.ensures the-grow-to.result s the-grow-to.ensures.1) s the-put-record.ensures
     c.put_size.ensures
