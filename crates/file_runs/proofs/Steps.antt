@@ -1,27 +1,28 @@
 -- One run more, and one entry more.
 use mathlib.Core.Path.{◌≡◌, refl, sym, ap, ◌∙◌}
-use mathlib.Core.List.{List, [], ◌∷◌, ◌++◌, append_assoc, append-nil}
-use mathlib.Core.Bool.{Bool, cond}
+use mathlib.Core.List.{List, [], ◌++◌, append_assoc, append-nil}
+use mathlib.Core.Bool.{Bool, true, false, cond}
 use Prim.Native.Nat.{ℕ, zero, suc, ◌+◌, ◌-◌, ◌*◌, ◌/◌, ◌%◌, ◌≤◌, ◌<◌}
 use native.Mathlib.Omega.{arith}
 use native.Mathlib.Nat.{sub-zero, mul-le-mul_left, mul-add}
 use lib.ListN.{length, get_or, length-append, get_or-append}
 use lib.Seq.{get_or-append-add}
 use lib.Dec.{eqb}
-use borrow.Author.Tests.{eq-eqb, ne_eqb}
+use borrow.Author.Tests.{eq-eqb, ne_eqb, eqb-true}
+use Rattle.std.proofs.lemmas.Bool.{eqb-false}
+use mathlib.Core.Logic.{⊎_elim}
 use Rattle.meaning.specs.Lists.{count, each}
-use Rattle.meaning.specs.Layout.{slots, granules, granule_bytes, directory_sectors}
+use Rattle.meaning.specs.Layout.{granule_bytes, directory_sectors}
 use Rattle.meaning.specs.Entries.{runs, run_start, run_length, run_granules, entry_granules, marker, link}
 use Rattle.meaning.specs.Chain.{chain_from, chain, owned, place}
 use Rattle.meaning.specs.declared.Geometry.{Geometry}
 use Rattle.lists.specs.Sizes
 use Rattle.lists.specs.Members.{length-count}
 use Rattle.lists.specs.Ranges.{count-more, count_none}
-use Rattle.lists.specs.Tests.{get_or-count}
+use Rattle.lists.specs.Tests.{get_or-count, le-or-lt}
 use Rattle.seek.specs.Seek.{Walkable, Used, onward}
-use Rattle.seek.proofs.SeekSteps.{chain_more, chain-none, slots_length}
+use Rattle.seek.proofs.SeekSteps.{slots_length}
 use Rattle.file_runs.specs.Along.{ahead, Past, Along}
-use Rattle.file_runs.specs.declared.FileRun.{FileRun}
 
 module _ (g : Geometry) (d : List ℕ) where
   -- what is ahead before an entry's first pair is what the chain from there on has
@@ -152,15 +153,19 @@ module _ (g : Geometry) (d : List ℕ) where
           → Along g d s (record { slot = slot; pair = pair + 1; left = left; from = to; to = to + v * x; at = v * y }) × (to ≡ to) × (to < to + v * x)
       next-run a b e = rw (a, b, e) (along-run, refl, run-some)
 
-  -- nothing is ahead: all granules are past
-  module _ {s to slot pair left : ℕ} (p : Past g d s to slot pair left) where
-    over : ahead g d left slot pair ≡ [] → to < granule_bytes g * length (owned g d s) → ⊥
-    over e l =
+  -- where granules are ahead, nothing is not
+  module _ {s to slot pair left : ℕ} (p : Past g d s to slot pair left) (more : to < granule_bytes g * length (owned g d s)) where
+    over : ahead g d left slot pair ≡ [] → ⊥
+    over e =
         let q = ap (λ (xs : List ℕ). granule_bytes g * length xs) (p.whole ∙ ap (λ (xs : List ℕ). p.past ++ xs) e ∙ append-nil p.past) in
         omega (arith, p.to')
 
-    pub past-none : 0 < left → runs g d slot ≤ pair → (marker g d slot ≡ 0xfe → ⊥) → to < granule_bytes g * length (owned g d s) → ⊥
-    past-none h l m = over (ahead_none left slot pair h l m)
+    pub past-some : 0 < left
+    past-some = ⊎_elim (λ h. absurd (over (ahead-over left slot pair h))) (λ h. h) (le-or-lt left 0)
 
-    pub past-over : left ≤ 0 → to < granule_bytes g * length (owned g d s) → ⊥
-    past-over h = over (ahead-over left slot pair h)
+    pub past-marker : runs g d slot ≤ pair → marker g d slot ≡ 0xfe
+    past-marker l = by (eqb (marker g d slot) 0xfe) refl
+      where
+        by : (t : Bool) → eqb (marker g d slot) 0xfe ≡ t → marker g d slot ≡ 0xfe
+        by true e = eqb-true (marker g d slot) 0xfe e
+        by false e = absurd (over (ahead_none left slot pair past-some l (eqb-false (marker g d slot) 0xfe e)))

@@ -37,7 +37,8 @@ pub fn begin(image: &[u8], g: Geometry, s: usize) -> FileRun
     }
 }
 
-// The run after c, of a file that has more granules.
+// The run after c, of a file that has more granules: so past an entry's last pair there is an entry more. This goes by entries, as many as have
+// no pair ahead.
 fn next(image: &[u8], g: Geometry, s: usize, c: FileRun) -> FileRun
     requires { Walkable g image.now × Along g image.now s c × (c.to < granule_bytes g * length (owned g image.now s)) × (c.to < 16777216) }
     ensures { Along g image.now s result × (result.from ≡ c.to) × (result.from < result.to) }
@@ -46,25 +47,19 @@ fn next(image: &[u8], g: Geometry, s: usize, c: FileRun) -> FileRun
     let mut slot = c.slot;
     let mut pair = c.pair;
     let mut left = c.left;
-    while 0 < left {
-        if pair < layout::runs(image, g, slot) {
-            return FileRun {
-                slot,
-                pair: pair + 1,
-                left,
-                from: c.to,
-                to: c.to + w * layout::run_length(image, g, slot, pair),
-                at: w * layout::run_start(image, g, slot, pair),
-            };
-        }
-        if layout::field(image, g, slot, layout::MARKER) != layout::HANDS_ON {
-            return c;
-        }
+    while layout::runs(image, g, slot) <= pair {
         slot = layout::field(image, g, slot, layout::LINK);
         pair = 0;
         left -= 1;
     }
-    c
+    FileRun {
+        slot,
+        pair: pair + 1,
+        left,
+        from: c.to,
+        to: c.to + w * layout::run_length(image, g, slot, pair),
+        at: w * layout::run_start(image, g, slot, pair),
+    }
 }
 
 // The run with byte i, which is of c or the first one after c.
@@ -73,8 +68,5 @@ pub fn reach(image: &[u8], g: Geometry, s: usize, c: FileRun, i: usize) -> FileR
         × (i < granule_bytes g * length (owned g image.now s)) × (i < 16777216) }
     ensures { Along g image.now s result × (result.from ≤ i) × (i < result.to) }
 {
-    if i < c.to {
-        return c;
-    }
-    next(image, g, s, c)
+    if i < c.to { c } else { next(image, g, s, c) }
 }
