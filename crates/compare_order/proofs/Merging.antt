@@ -5,7 +5,10 @@ use mathlib.Core.Bool.{Bool, true, false}
 use mathlib.Core.List.{List}
 use Prim.Native.Nat.{ℕ, suc, ◌+◌, ◌≤◌, ◌<◌}
 use native.Mathlib.Omega.{arith}
-use lib.ListN.{get_or}
+use lib.ListN.{length, get_or}
+use Rattle.std.proofs.Common.{Option, None}
+use Rattle.std.specs.Option.{MatchOption}
+use Rattle.std.proofs.lemmas.Option.{MatchOption-at_none}
 use Rattle.meaning.specs.Entries.{name_of}
 use Rattle.meaning.specs.declared.Geometry.{Geometry}
 use Rattle.lists.specs.Tests.{le-or-lt}
@@ -13,7 +16,8 @@ use Rattle.differences.specs.Compare.{before}
 use Rattle.differences.specs.Order.{never, before_self, before_back, before_on, before-neither}
 use Rattle.compare_order.specs.Whole.{WholeDisk, StartsFile}
 use Rattle.compare_order.specs.Table.{name_in, InOrder, Reached}
-use Rattle.compare_order.specs.Walk.{Least, name_at, Merges}
+use Rattle.compare_order.specs.declared.Pair.TheVariants.{First, Second, Both}
+use Rattle.compare_order.specs.Walk.{Least, name_at, Merges, MergesNone}
 use Rattle.compare_order.proofs.Pairs.{none_left, only-first, only-second, on_both}
 
 -- One table ---------------------------------------------------------------------------------------------------------------
@@ -54,7 +58,7 @@ module _ (g : Geometry) (d : List ℕ) (o : List ℕ) (n : ℕ) (z : InOrder g d
     pub held : s < 256 → i < n
     held l = ⊎_elim (λ q. absurd (let e = b q in let v : ⊥ = omega arith in v)) (λ q. q) (le-or-lt n i)
 
-    holds-slot : i < n → s < 256
+    pub holds-slot : i < n → s < 256
     holds-slot l = let e = a l in let f = (z.file i l).slot.low in omega arith
 
     pub at_most : s ≤ 256
@@ -85,6 +89,16 @@ module _ (g : Geometry) (d : List ℕ) (o : List ℕ) (n : ℕ) (z : InOrder g d
               (λ q. never (sym (subst (λ (y : ℕ). before last (name_of g d y) ≡ true) (sym x.2) f) ∙ t.past x.0 q)) (le-or-lt i x.0)));
         }
 
+-- the slot at place i is read, or none is there
+pub some-at : (o : List ℕ) {n i s : ℕ} → (i < n) × (s ≡ get_or o i 0) → (i < n → s ≡ get_or o i 0) × (n ≤ i → s ≡ 256)
+some-at o x = let l = x.0 in (λ m. x.1, λ m. absurd (let v : ⊥ = omega arith in v))
+
+pub none-at : (o : List ℕ) (i : ℕ) {r : Option ℕ} → r ≡ None → MatchOption r (length o ≤ i) (λ s. (i < length o) × (s ≡ get_or o i 0))
+    → (i < length o → let z : ℕ = 256 in z ≡ get_or o i 0) × (length o ≤ i → let z : ℕ = 256 in z ≡ 256)
+none-at o i e x =
+    let l = MatchOption-at_none (length o ≤ i) (λ s. (i < length o) × (s ≡ get_or o i 0)) e x in
+    (λ m. absurd (let v : ⊥ = omega arith in v), λ m. refl)
+
 -- Both --------------------------------------------------------------------------------------------------------------------
 
 module _ (g : Geometry) (d : List ℕ) (h : Geometry) (e : List ℕ) (w : WholeDisk g d) (v : WholeDisk h e)
@@ -96,43 +110,36 @@ module _ (g : Geometry) (d : List ℕ) (h : Geometry) (e : List ℕ) (w : WholeD
   theirs : (last : List ℕ) → Reached h e o' m j last → Least h e last 256 t
   theirs = least_at h e o' m y a' b'
 
-  pub merges-none : s ≡ 256 → t ≡ 256 → Merges g d h e o n i o' m j (record { kind = 0; first = s; second = t })
-  merges-none p q =
-      record {
-        next = λ last k l. none_left g d h e w v last (ours last k) (theirs last l) p q;
-        first' = λ last k l f. absurd (f refl);
-        second' = λ last k l f. absurd (f refl);
-      }
+  pub merges-none : s ≡ 256 → t ≡ 256 → MergesNone g d h e o n i o' m j
+  merges-none p q = record { ended = λ last k l. none_left g d h e w v last (ours last k) (theirs last l) p q }
 
-  pub merges-first : s < 256 → (t < 256 → before (name_of g d s) (name_of h e t) ≡ true)
-      → Merges g d h e o n i o' m j (record { kind = 1; first = s; second = t })
+  pub merges-first : s < 256 → (t < 256 → before (name_of g d s) (name_of h e t) ≡ true) → Merges g d h e o n i o' m j (First s)
   unfolding name_at
   merges-first l f =
       record {
         next = λ last k q. only-first g d h e w v last (ours last k) (theirs last q) l f;
-        first' = λ last k q p. reached-on g d o n z i (name_of g d s) (held g d o n z a b l) (ap (name_of g d) (a (held g d o n z a b l)));
-        second' = λ last k q p. reached-keep h e o' m y j last (name_of g d s) q ((ours last k).after l)
+        first' = λ last k q. reached-on g d o n z i (name_of g d s) (held g d o n z a b l) (ap (name_of g d) (a (held g d o n z a b l)));
+        second' = λ last k q. reached-keep h e o' m y j last (name_of g d s) q ((ours last k).after l)
             (λ x. subst (λ (r : ℕ). before (name_of g d s) (name_of h e r) ≡ true) (a' x) (f (holds-slot h e o' m y a' b' x)));
       }
 
-  pub merges-second : t < 256 → (s < 256 → before (name_of h e t) (name_of g d s) ≡ true)
-      → Merges g d h e o n i o' m j (record { kind = 2; first = s; second = t })
+  pub merges-second : t < 256 → (s < 256 → before (name_of h e t) (name_of g d s) ≡ true) → Merges g d h e o n i o' m j (Second t)
   unfolding name_at
   merges-second l f =
       record {
         next = λ last k q. only-second g d h e w v last (ours last k) (theirs last q) l f;
-        first' = λ last k q p. reached-keep g d o n z i last (name_of h e t) k ((theirs last q).after l)
+        first' = λ last k q. reached-keep g d o n z i last (name_of h e t) k ((theirs last q).after l)
             (λ x. subst (λ (r : ℕ). before (name_of h e t) (name_of g d r) ≡ true) (a x) (f (holds-slot g d o n z a b x)));
-        second' = λ last k q p. reached-on h e o' m y j (name_of h e t) (held h e o' m y a' b' l) (ap (name_of h e) (a' (held h e o' m y a' b' l)));
+        second' = λ last k q. reached-on h e o' m y j (name_of h e t) (held h e o' m y a' b' l) (ap (name_of h e) (a' (held h e o' m y a' b' l)));
       }
 
   pub merges-both : s < 256 → t < 256 → before (name_of g d s) (name_of h e t) ≡ false → before (name_of h e t) (name_of g d s) ≡ false
-      → Merges g d h e o n i o' m j (record { kind = 3; first = s; second = t })
+      → Merges g d h e o n i o' m j (Both s t)
   unfolding name_at
   merges-both l x f p =
       record {
         next = λ last k q. on_both g d h e w v last (ours last k) (theirs last q) l x f p;
-        first' = λ last k q r. reached-on g d o n z i (name_of g d s) (held g d o n z a b l) (ap (name_of g d) (a (held g d o n z a b l)));
-        second' = λ last k q r. reached-on h e o' m y j (name_of g d s) (held h e o' m y a' b' x)
+        first' = λ last k q. reached-on g d o n z i (name_of g d s) (held g d o n z a b l) (ap (name_of g d) (a (held g d o n z a b l)));
+        second' = λ last k q. reached-on h e o' m y j (name_of g d s) (held h e o' m y a' b' x)
             (before-neither (name_of g d s) (name_of h e t) f p ∙ ap (name_of h e) (a' (held h e o' m y a' b' x)));
       }

@@ -1,7 +1,7 @@
 -- The next name of either disk: which files stand under it.
 use mathlib.Core.Path.{◌≡◌, refl, sym, subst, ◌∙◌}
 use mathlib.Core.Logic.{◌⊎◌, inl, inr, ⊎_elim}
-use mathlib.Core.List.{List, ◌∷◌, ◌++◌}
+use mathlib.Core.List.{List, [], ◌∷◌, ◌++◌}
 use mathlib.Core.Bool.{Bool, true, false}
 use Prim.Native.Nat.{ℕ, ◌<◌}
 use native.Mathlib.Omega.{arith}
@@ -18,6 +18,7 @@ use Rattle.differences.specs.Compare.{before, names, merged}
 use Rattle.differences.specs.Order.{In, never, before_self, before_back, before_on, before-neither, in_left, in_right, in_either, in_map, map-in}
 use Rattle.differences.specs.Order.{Rises, rising-rises, rising-in, in-rising, keep-none, next-name}
 use Rattle.compare_order.specs.Whole.{WholeDisk, StartsFile}
+use Rattle.compare_order.specs.declared.Pair.TheVariants.{First, Second, Both}
 use Rattle.compare_order.specs.Walk.{Least, later, name_at, on_first, on_second, NextPair}
 
 -- what is not before b, which is not before c, is not before c
@@ -104,52 +105,42 @@ module _ (g : Geometry) (d : List ℕ) (h : Geometry) (e : List ℕ) where
         (beyond h e last b n k q.0 q.1 (subst (λ (z : List ℕ). before last z ≡ true) (sym q.2) m)))
         (merged-in j))
 
-    pub none_left : s ≡ 256 → t ≡ 256 → NextPair g d h e last (record { kind = 0; first = s; second = t })
+    pub none_left : s ≡ 256 → t ≡ 256 → later g d h e last ≡ []
     unfolding later
-    none_left p q =
-        record {
-          ended = λ z. keep-none (before last) (merged g d h e) (λ x j.
-              ⊎_elim (λ k. subst (λ (y : List ℕ). before last y ≡ false) k.2 (a.none p k.0 k.1.slot.low k.1))
-              (λ k. subst (λ (y : List ℕ). before last y ≡ false) k.2 (b.none q k.0 k.1.slot.low k.1)) (merged-in j));
-          files = λ z. absurd (z refl);
-          ahead = λ z. absurd (z refl);
-          first' = λ z. absurd (z refl);
-          second' = λ z. absurd (z refl);
-        }
+    none_left p q = keep-none (before last) (merged g d h e) (λ x j.
+        ⊎_elim (λ k. subst (λ (y : List ℕ). before last y ≡ false) k.2 (a.none p k.0 k.1.slot.low k.1))
+        (λ k. subst (λ (y : List ℕ). before last y ≡ false) k.2 (b.none q k.0 k.1.slot.low k.1)) (merged-in j))
 
-    pub only-first : s < 256 → (t < 256 → before (name_of g d s) (name_of h e t) ≡ true) → NextPair g d h e last (record { kind = 1; first = s; second = t })
+    pub only-first : s < 256 → (t < 256 → before (name_of g d s) (name_of h e t) ≡ true) → NextPair g d h e last (First s)
     unfolding name_at on_first on_second
     only-first l f =
         let n = name_of g d s in
         record {
-          ended = λ z. absurd (let q : ⊥ = omega arith in q);
-          files = λ z. record { some = z; first' = λ q. a.is l; second' = λ q. absurd (q refl) };
-          ahead = λ z. goes_on n (in-first s (a.is l)) (a.after l) (λ q. before_self n) (λ q. before_back n (name_of h e t) (f q));
-          first' = λ z. stands g d w s n (a.is l) refl;
-          second' = λ z. missing h e n (absent h e last b n (a.after l) f);
+          files = a.is l;
+          ahead = goes_on n (in-first s (a.is l)) (a.after l) (λ q. before_self n) (λ q. before_back n (name_of h e t) (f q));
+          first' = stands g d w s n (a.is l) refl;
+          second' = missing h e n (absent h e last b n (a.after l) f);
         }
 
-    pub only-second : t < 256 → (s < 256 → before (name_of h e t) (name_of g d s) ≡ true) → NextPair g d h e last (record { kind = 2; first = s; second = t })
+    pub only-second : t < 256 → (s < 256 → before (name_of h e t) (name_of g d s) ≡ true) → NextPair g d h e last (Second t)
     unfolding name_at on_first on_second
     only-second l f =
         let n = name_of h e t in
         record {
-          ended = λ z. absurd (let q : ⊥ = omega arith in q);
-          files = λ z. record { some = z; first' = λ q. absurd (q refl); second' = λ q. b.is l };
-          ahead = λ z. goes_on n (in-second t (b.is l)) (b.after l) (λ q. before_back n (name_of g d s) (f q)) (λ q. before_self n);
-          first' = λ z. missing g d n (absent g d last a n (b.after l) f);
-          second' = λ z. stands h e v t n (b.is l) refl;
+          files = b.is l;
+          ahead = goes_on n (in-second t (b.is l)) (b.after l) (λ q. before_back n (name_of g d s) (f q)) (λ q. before_self n);
+          first' = missing g d n (absent g d last a n (b.after l) f);
+          second' = stands h e v t n (b.is l) refl;
         }
 
     pub on_both : s < 256 → t < 256 → before (name_of g d s) (name_of h e t) ≡ false → before (name_of h e t) (name_of g d s) ≡ false
-        → NextPair g d h e last (record { kind = 3; first = s; second = t })
+        → NextPair g d h e last (Both s t)
     unfolding name_at on_first on_second
     on_both l m f k =
         let n = name_of g d s in
         record {
-          ended = λ z. absurd (let q : ⊥ = omega arith in q);
-          files = λ z. record { some = z; first' = λ q. a.is l; second' = λ q. b.is m };
-          ahead = λ z. goes_on n (in-first s (a.is l)) (a.after l) (λ q. before_self n) (λ q. k);
-          first' = λ z. stands g d w s n (a.is l) refl;
-          second' = λ z. stands h e v t n (b.is m) (sym (before-neither n (name_of h e t) f k));
+          files = (a.is l, b.is m);
+          ahead = goes_on n (in-first s (a.is l)) (a.after l) (λ q. before_self n) (λ q. k);
+          first' = stands g d w s n (a.is l) refl;
+          second' = stands h e v t n (b.is m) (sym (before-neither n (name_of h e t) f k));
         }

@@ -3,9 +3,10 @@ use mathlib.Core.Path.{◌≡◌, refl, sym, ap, subst, ◌∙◌}
 use mathlib.Core.Logic.{⊎_elim}
 use mathlib.Core.Bool.{Bool, true, false}
 use mathlib.Core.List.{List}
-use Prim.Native.Nat.{ℕ, suc, ◌+◌, ◌-◌, ◌*◌, ◌/◌, ◌%◌, ◌≤◌, ◌<◌}
+use Prim.Native.Nat.{ℕ, suc, ◌+◌, ◌-◌, ◌*◌, ◌≤◌, ◌<◌}
 use native.Mathlib.Omega.{arith}
-use lib.ListN.{get_or}
+use lib.ListN.{length, get_or, take}
+use Rattle.std.proofs.lemmas.List.{get_or-take, length-take-le}
 use Rattle.meaning.specs.Layout.{directory_sectors}
 use Rattle.meaning.specs.Entries.{in_use_primary, name_of}
 use Rattle.meaning.specs.declared.Geometry.{Geometry}
@@ -73,6 +74,27 @@ module _ (g : Geometry) (d : List ℕ) where
   halving-end o n s low high t h = let b = t.between in let i = t.inside in
       record { low = omega arith; earlier = t.earlier; later' = λ k l m. t.later' k (omega arith) m }
 
+  -- the table's first n places as a table of their own
+  pub order-part : (o : List ℕ) (n s : ℕ) → n ≤ length o → InOrder g d o n s → InOrder g d (take n o) (length (take n o)) s
+  order-part o n s h z = subst (λ (m : ℕ). InOrder g d (take n o) m s) (sym (length-take-le n o h)) (record {
+    few = z.few;
+    file = λ k l. subst (StartsFile g d) (sym (get_or-take n o k 0 l)) (z.file k l);
+    low = λ k l. subst (λ (x : ℕ). x < s) (sym (get_or-take n o k 0 l)) (z.low k l);
+    rises = λ i k l m. named i k (omega arith) m (z.rises i k l m);
+    each' = λ p l st. let x = z.each' p l st in (x.0, x.1, get_or-take n o x.0 0 x.1 ∙ x.2);
+  })
+    where
+      named : (i k : ℕ) → i < n → k < n → before (name_in g d o i) (name_in g d o k) ≡ true → before (name_in g d (take n o) i) (name_in g d (take n o) k) ≡ true
+      named i k a b e = (λ j. before (name_of g d (get_or-take n o i 0 a j)) (name_of g d (get_or-take n o k 0 b j))) ∙ e
+
+  pub goes-part : (o : List ℕ) (n s r : ℕ) → n ≤ length o → GoesTo g d (take n o) (length (take n o)) s r → GoesTo g d o n s r
+  goes-part o n s r h z = let e = length-take-le n o h in let w = z.low in
+      record {
+        low = omega arith;
+        earlier = λ k l. subst (λ (x : ℕ). before (name_of g d x) (name_of g d s) ≡ true) (get_or-take n o k 0 (omega arith)) (z.earlier k l);
+        later' = λ k l m. subst (λ (x : ℕ). before (name_of g d s) (name_of g d x) ≡ true) (get_or-take n o k 0 m) (z.later' k l (omega arith));
+      }
+
   -- One file more ---------------------------------------------------------------------------------------------------------
 
   pub order-start : (o : List ℕ) → InOrder g d o 0 0
@@ -96,9 +118,11 @@ module _ (g : Geometry) (d : List ℕ) where
         each' = λ p l st. ⊎_elim (λ q. absurd (f p q l st)) (λ q. z.each' p q st) (le-or-lt s p);
       }
 
-  pub order-past : (o : List ℕ) (n s : ℕ) {columns : ℕ} → columns ≡ directory_sectors g d - 2 → columns ≤ s % 32 → InOrder g d o n s
-      → InOrder g d o n (32 * (s / 32 + 1))
-  order-past o n s e h = order-on o n s (32 * (s / 32 + 1)) (omega arith) (λ p a b st. let u = st.slot.held in let q : ⊥ = omega arith in q)
+  -- a row has no slot past its columns
+  pub order-past : (o : List ℕ) (n row : ℕ) {columns : ℕ} → columns ≡ directory_sectors g d - 2 → columns < 29 → InOrder g d o n (32 * row + columns)
+      → InOrder g d o n (32 * (row + 1))
+  order-past o n row {columns} e h =
+      order-on o n (32 * row + columns) (32 * (row + 1)) (omega arith) (λ p a b st. let u = st.slot.held in let q : ⊥ = omega arith in q)
 
   pub order-skip : (o : List ℕ) (n s : ℕ) → in_use_primary g d s ≡ false → InOrder g d o n s → InOrder g d o n (s + 1)
   order-skip o n s e =

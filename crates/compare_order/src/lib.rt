@@ -2,77 +2,57 @@
 // tables are gone along side by side.
 #![tactic(auto)]
 
-ghost use Rattle.std.specs.Prelude.{◌≡◌, ◌+◌, ◌<◌, ◌≤◌, length, get_or, take, drop};
+ghost use Rattle.std.specs.Prelude.{◌≡◌, ◌+◌, ◌<◌, ◌≤◌, length, get_or, MatchOption};
 ghost use Rattle.meaning.specs.Entries.{name_of};
 ghost use Rattle.layout.specs.Room.{Room, Slot};
 ghost use Rattle.differences.specs.Compare.{before};
 ghost use Rattle.compare_order.specs.Whole.{WholeDisk, StartsFile};
-ghost use Rattle.compare_order.specs.Walk.{NamePlaced, Merges};
+ghost use Rattle.compare_order.specs.Walk.{Merges, MergesNone};
 ghost use Rattle.compare_order.specs.Table.{InOrder, GoesTo, PutIn};
 
 use meaning::Geometry;
+use std::cmp::Ordering;
 
-// The files of one name: kind 1 where only the first disk has one, 2 where only the second has, 3 where both have, at those slots; kind
-// 0 where there is no name.
+// The files of one name, by their slots: only the first disk has one, only the second has, or both have.
 #[derive(Clone, Copy)]
-pub struct Pair {
-    pub kind: u8,
-    pub first: usize,
-    pub second: usize,
+pub enum Pair {
+    First(usize),
+    Second(usize),
+    Both(usize, usize),
 }
 
-// The first slot number that no directory has: no slot.
-const NO_SLOT: usize = 256;
-
-// Whether the eleven bytes at p of one slice come before those at q of another.
-fn name_before(a: &[u8], p: usize, b: &[u8], q: usize) -> bool
-    requires { (p + 11 ≤ length a.now) × (q + 11 ≤ length b.now) }
-    ensures { result ≡ before (take 11 (drop p a.now)) (take 11 (drop q b.now)) }
-{
-    let mut i = 0;
-    while i < 11 {
-        let x = a[p + i];
-        let y = b[q + i];
-        if x != y {
-            return x < y;
-        }
-        i += 1;
-    }
-    false
-}
-
-// Where the name of slot s lies.
-fn name_place(image: &[u8], g: Geometry, s: usize) -> usize
+// The name of slot s.
+fn name(image: &[u8], g: Geometry, s: usize) -> &[u8]
     requires { Room g image.now × Slot g image.now s }
-    ensures { NamePlaced g image.now s result }
+    ensures { result.now ≡ name_of g image.now s }
 {
-    layout::name_at(image, g, s)
+    let p = layout::name_at(image, g, s);
+    &image[p..p + 11]
 }
 
-// Whether the name of slot s of one disk comes before that of slot t of another.
-fn slot_before(first: &[u8], g: Geometry, s: usize, second: &[u8], h: Geometry, t: usize) -> bool
-    requires { Room g first.now × Slot g first.now s × Room h second.now × Slot h second.now t }
-    ensures { result ≡ before (name_of g first.now s) (name_of h second.now t) }
+// Whether the name of slot s comes before that of slot t.
+fn slot_before(image: &[u8], g: Geometry, s: usize, t: usize) -> bool
+    requires { Room g image.now × Slot g image.now s × Slot g image.now t }
+    ensures { result ≡ before (name_of g image.now s) (name_of g image.now t) }
 {
-    let p = name_place(first, g, s);
-    let q = name_place(second, h, t);
-    name_before(first, p, second, q)
+    name(image, g, s) < name(image, g, t)
 }
 
-// Where slot s goes among the n files in the table's first places: behind those with an earlier name, found by halving.
-fn place_for(image: &[u8], g: Geometry, order: &[u8], n: usize, s: usize) -> usize
-    requires { WholeDisk g image.now × StartsFile g image.now s × InOrder g image.now order.now n s × (length order.now ≡ 256) }
-    ensures { GoesTo g image.now order.now n s result }
+// Where slot s goes among the files of a table: behind those with an earlier name, found by halving. `partition_point` asks more: that its
+// test may be made of any byte, not only of a slot.
+fn place_for(image: &[u8], g: Geometry, order: &[u8], s: usize) -> usize
+    requires { WholeDisk g image.now × StartsFile g image.now s × InOrder g image.now order.now (length order.now) s }
+    ensures { GoesTo g image.now order.now (length order.now) s result }
 {
     let mut low = 0;
-    let mut high = n;
+    let mut high = order.len();
     while low < high {
         let mid = (low + high) / 2;
-        if slot_before(image, g, layout::wide(order[mid]), image, g, s) {
+        if slot_before(image, g, usize::from(order[mid]), s) {
             low = mid + 1;
-            continue;
+        } else {
+            high = mid;
         }
-        high = mid;
     }
     low
 }
@@ -82,15 +62,8 @@ fn put_at(order: &mut [u8], n: usize, i: usize, x: u8)
     requires { (i ≤ n) × (n < length order.old) }
     ensures { PutIn order.old n i x order.new }
 {
-    let mut carried = x;
-    let mut k = i;
-    while k < n {
-        let next = order[k];
-        order[k] = carried;
-        carried = next;
-        k += 1;
-    }
-    order[n] = carried;
+    order.copy_within(i..n, i + 1);
+    order[i] = x;
 }
 
 // Slot s, after all slots below it: a file goes to its place in the table. How many are there then.
@@ -101,7 +74,7 @@ fn visit(image: &[u8], g: Geometry, order: &mut [u8], n: usize, s: usize) -> usi
     if !layout::primary(image, g, s) {
         return n;
     }
-    let i = place_for(image, g, order, n, s);
+    let i = place_for(image, g, &order[..n], s);
     put_at(order, n, i, s as u8);
     n + 1
 }
@@ -113,86 +86,46 @@ pub fn sort(image: &[u8], g: Geometry, order: &mut [u8]) -> usize
 {
     let columns = layout::columns(image, g);
     let mut n = 0;
-    let mut s = 0;
-    while s < 256 {
-        if columns <= s % 32 {
-            s = 32 * (s / 32 + 1);
-            continue;
+    for row in 0..8 {
+        let start = 32 * row;
+        for s in start..start + columns {
+            n = visit(image, g, order, n, s);
         }
-        n = visit(image, g, order, n, s);
-        s += 1;
     }
     n
 }
 
-// The slot at place i of a table of n; none past its end.
-fn slot_at(order: &[u8], n: usize, i: usize) -> usize
-    requires { n ≤ length order.now }
-    ensures { ((i < n) → result ≡ get_or order.now i 0) × ((n ≤ i) → result ≡ 256) }
+// The slot at place i of a table; none past its end.
+fn slot_at(order: &[u8], i: usize) -> Option<usize>
+    ensures { MatchOption result (length order.now ≤ i) (λ s. (i < length order.now) × (s ≡ get_or order.now i 0)) }
 {
-    if i < n {
-        return layout::wide(order[i]);
-    }
-    NO_SLOT
+    order.get(i).map(|s| usize::from(*s))
 }
 
-// The next name of either disk, where the files of i and j places of the two tables were met.
+// The next name of either disk, where the files of i and j places of the two tables were met; none past the last.
 pub fn next_pair(
     first: &[u8],
     g: Geometry,
     second: &[u8],
     h: Geometry,
     ours: &[u8],
-    n: usize,
     i: usize,
     theirs: &[u8],
-    m: usize,
     j: usize,
-) -> Pair
-    requires { WholeDisk g first.now × WholeDisk h second.now × InOrder g first.now ours.now n 256
-        × InOrder h second.now theirs.now m 256 × (length ours.now ≡ 256) × (length theirs.now ≡ 256) }
-    ensures { Merges g first.now h second.now ours.now n i theirs.now m j result }
+) -> Option<Pair>
+    requires { WholeDisk g first.now × WholeDisk h second.now × InOrder g first.now ours.now (length ours.now) 256
+        × InOrder h second.now theirs.now (length theirs.now) 256 }
+    ensures { MatchOption result (MergesNone g first.now h second.now ours.now (length ours.now) i theirs.now (length theirs.now) j)
+        (λ p. Merges g first.now h second.now ours.now (length ours.now) i theirs.now (length theirs.now) j p) }
 {
-    let s = slot_at(ours, n, i);
-    let t = slot_at(theirs, m, j);
-    if s == NO_SLOT {
-        if t == NO_SLOT {
-            return Pair {
-                kind: 0,
-                first: s,
-                second: t,
-            };
-        }
-        return Pair {
-            kind: 2,
-            first: s,
-            second: t,
-        };
-    }
-    if t == NO_SLOT {
-        return Pair {
-            kind: 1,
-            first: s,
-            second: t,
-        };
-    }
-    if slot_before(first, g, s, second, h, t) {
-        return Pair {
-            kind: 1,
-            first: s,
-            second: t,
-        };
-    }
-    if slot_before(second, h, t, first, g, s) {
-        return Pair {
-            kind: 2,
-            first: s,
-            second: t,
-        };
-    }
-    Pair {
-        kind: 3,
-        first: s,
-        second: t,
+    match (slot_at(ours, i), slot_at(theirs, j)) {
+        (None, None) => None,
+        (Some(s), None) => Some(Pair::First(s)),
+        (None, Some(t)) => Some(Pair::Second(t)),
+        (Some(s), Some(t)) => match name(first, g, s).cmp(&name(second, h, t)) {
+            Ordering::Less => Some(Pair::First(s)),
+            Ordering::Greater => Some(Pair::Second(t)),
+            Ordering::Equal => Some(Pair::Both(s, t)),
+        },
     }
 }

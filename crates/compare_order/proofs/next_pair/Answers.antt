@@ -1,82 +1,62 @@
-use Rattle.compare_order.proofs.Merging.{at_most, starts-here, merges-none, merges-first, merges-second, merges-both}
-use mathlib.Core.Path.{sym, ◌∙◌}
+use Rattle.compare_order.proofs.Merging.{some-at, none-at, holds-slot, merges-none, merges-first, merges-second, merges-both}
+use Rattle.compare_order.proofs.Names.{cmp-before, cmp-after}
+use Rattle.differences.specs.Compare.{before}
+use Rattle.std.specs.Ordering.{is_lt, is_gt}
+use mathlib.Core.Path.{refl, sym, ap, ◌∙◌}
 use native.Mathlib.Omega.{arith}
 use Rattle.compare_order.proofs.next_pair.Goals as goal
 
-pub returns-then-t-eq-NO_SLOT : goal.returns-then-t-eq-NO_SLOT
-returns-then-t-eq-NO_SLOT c =
-    let slot_at = c.slot_at-s in
+pub returns-in-None-None : goal.returns-in-None-None
+returns-in-None-None c =
+    let a = none-at _ _ c.in-None-None.is-0 c.slot_at.ensures in
+    let b = none-at _ _ c.in-None-None.is-1 c.slot_at-2.ensures in
     let p = c.requires in
-    merges-none _ _ _ _ p.0 p.1 _ _ _ _ p.2 p.3 slot_at.ensures.0 slot_at.ensures.1 c.slot_at-t.ensures.0
-    c.slot_at-t.ensures.1 c.if-s-eq-NO_SLOT.true c.if-t-eq-NO_SLOT.true
+    merges-none _ _ _ _ p.0 p.1 _ _ _ _ p.2 p.3 a.0 a.1 b.0 b.1 refl refl
 
-pub returns-then-s-eq-NO_SLOT : goal.returns-then-s-eq-NO_SLOT
-returns-then-s-eq-NO_SLOT c =
-    let slot-at2 = c.slot_at-t in
-    let slot_at = c.slot_at-s in
+pub returns-in-None-Some : goal.returns-in-None-Some
+returns-in-None-Some c =
+    let a = none-at _ _ c.in-None-Some.is-0 c.slot_at.ensures in
+    let b = some-at _ c.in-None-Some.ensures in
     let p = c.requires in
-    merges-second _ _ _ _ p.0 p.1 _ _ _ _ p.2 p.3 slot_at.ensures.0 slot_at.ensures.1 slot-at2.ensures.0 slot-at2.ensures.1
-    (omega (arith, at_most _ _ _ _ p.3 slot-at2.ensures.0 slot-at2.ensures.1, c.if-t-eq-NO_SLOT.false))
-    (λ l. absurd (let z = c.if-s-eq-NO_SLOT.true in let q : ⊥ = omega arith in q))
+    merges-second _ _ _ _ p.0 p.1 _ _ _ _ p.2 p.3 a.0 a.1 b.0 b.1 (holds-slot _ _ _ _ p.3 b.0 b.1 c.in-None-Some.ensures.0)
+    (λ l. absurd (let q : ⊥ = omega arith in q))
 
-pub returns-then-t-eq-NO_SLOT-2 : goal.returns-then-t-eq-NO_SLOT-2
-returns-then-t-eq-NO_SLOT-2 c =
-    let slot_at = c.slot_at-s in
+pub returns-in-Some-None : goal.returns-in-Some-None
+returns-in-Some-None c =
+    let a = some-at _ c.in-Some-None.ensures in
+    let b = none-at _ _ c.in-Some-None.is-1 c.slot_at-2.ensures in
     let p = c.requires in
-    merges-first _ _ _ _ p.0 p.1 _ _ _ _ p.2 p.3 slot_at.ensures.0 slot_at.ensures.1 c.slot_at-t.ensures.0
-    c.slot_at-t.ensures.1 (omega (arith, at_most _ _ _ _ p.2 slot_at.ensures.0 slot_at.ensures.1, c.if-s-eq-NO_SLOT.false))
-    (λ l. absurd (let z = c.if-t-eq-NO_SLOT-2.true in let q : ⊥ = omega arith in q))
+    merges-first _ _ _ _ p.0 p.1 _ _ _ _ p.2 p.3 a.0 a.1 b.0 b.1 (holds-slot _ _ _ _ p.2 a.0 a.1 c.in-Some-None.ensures.0)
+    (λ l. absurd (let q : ⊥ = omega arith in q))
 
-pub slot_before-requires : goal.slot_before-requires
-slot_before-requires c = let slot-at2 = c.slot_at-t in let slot_at = c.slot_at-s in let p = c.requires in (
-  p.0.sound.room,
-  (starts-here _ _ _ _ p.2 slot_at.ensures.0 slot_at.ensures.1
-      (omega (arith, at_most _ _ _ _ p.2 slot_at.ensures.0 slot_at.ensures.1, c.if-s-eq-NO_SLOT.false))).slot,
-  p.1.sound.room,
-  (starts-here _ _ _
-      _ p.3 slot-at2.ensures.0 slot-at2.ensures.1
-      (omega (arith, at_most _ _ _ _ p.3 slot-at2.ensures.0 slot-at2.ensures.1, c.if-t-eq-NO_SLOT-2.false))).slot,
-)
-
-pub returns-then-slot_before : goal.returns-then-slot_before
-returns-then-slot_before c =
-    let if1 = c.if-s-eq-NO_SLOT in
-    let slot-at2 = c.slot_at-t in
-    let slot_at = c.slot_at-s in
+pub returns-in-Less : goal.returns-in-Less
+returns-in-Less c =
+    let a = some-at _ c.in-Some-Some.ensures in
+    let b = some-at _ c.in-Some-Some.ensures' in
     let p = c.requires in
-    merges-first _ _ _ _ p.0 p.1 _ _ _ _ p.2 p.3 slot_at.ensures.0 slot_at.ensures.1 slot-at2.ensures.0 slot-at2.ensures.1
-    (omega (arith, at_most _ _ _ _ p.2 slot_at.ensures.0 slot_at.ensures.1, if1.false))
-    (λ l. sym c.slot_before.ensures ∙ c.if-slot_before.true)
+    let x = c.name.ensures in
+    let y = c.name-in-Some-Some.ensures in
+    merges-first _ _ _ _ p.0 p.1 _ _ _ _ p.2 p.3 a.0 a.1 b.0 b.1 (holds-slot _ _ _ _ p.2 a.0 a.1 c.in-Some-Some.ensures.0)
+    (λ l. sym (ap is_lt (sym c.in-Less.is) ∙ cmp-before _ _ _ c.cmp.ensures ∙ (λ i. before (x i) (y i))))
 
-pub slot_before-requires-2 : goal.slot_before-requires-2
-slot_before-requires-2 c = let if1 = c.if-s-eq-NO_SLOT in let slot-at2 = c.slot_at-t in let slot_at = c.slot_at-s in let p = c.requires in (
-  p.1.sound.room,
-  (starts-here _ _ _ _ p.3 slot-at2.ensures.0 slot-at2.ensures.1
-      (omega (arith, at_most _ _ _ _ p.3 slot-at2.ensures.0 slot-at2.ensures.1, c.if-t-eq-NO_SLOT-2.false))).slot,
-  p.0.sound.room,
-  (starts-here _ _ _ _ p.2 slot_at.ensures.0 slot_at.ensures.1
-      (omega (arith, at_most _ _ _ _ p.2 slot_at.ensures.0 slot_at.ensures.1, if1.false))).slot,
-)
-
-pub returns-then-slot_before-2 : goal.returns-then-slot_before-2
-returns-then-slot_before-2 c =
-    let if3 = c.if-t-eq-NO_SLOT-2 in
-    let slot-at2 = c.slot_at-t in
-    let slot_at = c.slot_at-s in
+pub returns-in-Greater : goal.returns-in-Greater
+returns-in-Greater c =
+    let a = some-at _ c.in-Some-Some.ensures in
+    let b = some-at _ c.in-Some-Some.ensures' in
     let p = c.requires in
-    merges-second _ _ _ _ p.0 p.1 _ _ _ _ p.2 p.3 slot_at.ensures.0 slot_at.ensures.1 slot-at2.ensures.0 slot-at2.ensures.1
-    (omega (arith, at_most _ _ _ _ p.3 slot-at2.ensures.0 slot-at2.ensures.1, if3.false))
-    (λ l. sym c.slot_before-2.ensures ∙ c.if-slot_before-2.true)
+    let x = c.name.ensures in
+    let y = c.name-in-Some-Some.ensures in
+    merges-second _ _ _ _ p.0 p.1 _ _ _ _ p.2 p.3 a.0 a.1 b.0 b.1 (holds-slot _ _ _ _ p.3 b.0 b.1 c.in-Some-Some.ensures'.0)
+    (λ l. sym (ap is_gt (sym c.in-Greater.is) ∙ cmp-after _ _ _ c.cmp.ensures ∙ (λ i. before (y i) (x i))))
 
-pub returns : goal.returns
-returns c =
-    let slot-before = c.slot_before in
-    let if3 = c.if-t-eq-NO_SLOT-2 in
-    let if1 = c.if-s-eq-NO_SLOT in
-    let slot-at2 = c.slot_at-t in
-    let slot_at = c.slot_at-s in
+pub returns-in-Equal : goal.returns-in-Equal
+returns-in-Equal c =
+    let a = some-at _ c.in-Some-Some.ensures in
+    let b = some-at _ c.in-Some-Some.ensures' in
     let p = c.requires in
-    merges-both _ _ _ _ p.0 p.1 _ _ _ _ p.2 p.3 slot_at.ensures.0 slot_at.ensures.1 slot-at2.ensures.0 slot-at2.ensures.1
-    (omega (arith, at_most _ _ _ _ p.2 slot_at.ensures.0 slot_at.ensures.1, if1.false))
-    (omega (arith, at_most _ _ _ _ p.3 slot-at2.ensures.0 slot-at2.ensures.1, if3.false))
-    (sym slot-before.ensures ∙ c.if-slot_before.false) (sym c.slot_before-2.ensures ∙ c.if-slot_before-2.false)
+    let x = c.name.ensures in
+    let y = c.name-in-Some-Some.ensures in
+    merges-both _ _ _ _ p.0 p.1 _ _ _ _ p.2 p.3 a.0 a.1 b.0 b.1 (holds-slot _ _ _ _ p.2 a.0 a.1 c.in-Some-Some.ensures.0)
+    (holds-slot _ _ _ _ p.3 b.0 b.1 c.in-Some-Some.ensures'.0)
+    (sym (ap is_lt (sym c.in-Equal.is) ∙ cmp-before _ _ _ c.cmp.ensures ∙ (λ i. before (x i) (y i))))
+    (sym (ap is_gt (sym c.in-Equal.is) ∙ cmp-after _ _ _ c.cmp.ensures ∙ (λ i. before (y i) (x i))))

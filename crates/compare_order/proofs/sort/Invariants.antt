@@ -1,11 +1,11 @@
 use Rattle.compare_order.specs.Table.{InOrder}
 use lib.ListN.{length}
 use mathlib.Core.Path.{◌≡◌}
-use Prim.Native.Nat.{◌-◌, ◌≤◌}
+use Prim.Native.Nat.{◌*◌}
 use Rattle.compare_order.proofs.sort.Given as goal
 
 abbrev pub invariant-loop-s : goal.invariant-loop-s
-invariant-loop-s l = (l.s ≤ 256) × InOrder l.g l.image l.order l.n l.s × (length l.order ≡ 256)
+invariant-loop-s l = InOrder l.g l.image l.order l.n l.s × (length l.order ≡ 256)
 
-abbrev pub decreases-loop-s : goal.decreases-loop-s
-decreases-loop-s l = 256 - l.s
+abbrev pub invariant-loop-row : goal.invariant-loop-row
+invariant-loop-row l = InOrder l.g l.image l.order l.n (32 * l.row) × (length l.order ≡ 256)
