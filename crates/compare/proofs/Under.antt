@@ -1,11 +1,10 @@
 -- What stands under one name, of all tests.
-use mathlib.Core.Path.{◌≡◌, refl, sym, ap, ◌∙◌}
+use mathlib.Core.Path.{◌≡◌, refl, sym, ap, subst, ◌∙◌}
 use mathlib.Core.List.{List, [], ◌∷◌}
-use mathlib.Core.Bool.{Bool, true, false, not, cond}
+use mathlib.Core.Bool.{Bool, true, false, not, cond, ◌||◌}
 use Prim.Native.Nat.{ℕ}
 use lib.ListN.{length}
 use lib.Dec.{eqb}
-use borrow.Author.Tests.{ne_eqb}
 use Rattle.meaning.specs.Refusal.{unplaced}
 use Rattle.meaning.specs.declared.Refusal.{Refusal}
 use Rattle.meaning.specs.Lists.{same, all, any}
@@ -13,19 +12,20 @@ use Rattle.meaning.specs.Entries.{name_of, size_of, system}
 use Rattle.meaning.specs.Read.{fetch}
 use Rattle.meaning.specs.Plain.{file_at}
 use Rattle.meaning.specs.declared.Geometry.{Geometry}
-use Rattle.lists.specs.Tests.{any-skip, any-hit}
+use Rattle.std.proofs.Math.Bool.{or-false}
 use Rattle.read.proofs.ReadParts.{length-fetch}
 use Rattle.differences.specs.Compare.{parting, name_only, unlike, difference}
 use Rattle.differences.proofs.Parting.{same-parting}
 use Rattle.differences.specs.declared.Difference.{Difference}
+use Rattle.compare_order.specs.declared.Pair.TheVariants.{First, Second, Both}
 use Rattle.compare_order.specs.Walk.{name_at, on_first, on_second}
 use Rattle.compare_attributes.specs.Attributes.{dates_differ, others_differ}
 use Rattle.compare.specs.Kind.{contents_differ, kind_of}
 use Rattle.compare_order.specs.declared.Pair.{Pair}
 
-any_none : any [] ≡ false
+any-two : (a b : Bool) → any (a ∷ b ∷ []) ≡ (a || b)
 unfolding any
-any_none = refl
+any-two a b = ap (λ (x : Bool). a || x) (or-false b)
 
 module _ (g : Geometry) (d : List ℕ) (h : Geometry) (e : List ℕ) where
   module _ (s t : ℕ) where
@@ -59,38 +59,31 @@ module _ (g : Geometry) (d : List ℕ) (h : Geometry) (e : List ℕ) where
         }
 
   -- what stands under a name, case by case
-  module _ (p : Pair) where
-    pub diff-first : {x : Difference} → p.kind ≡ 1 → x ≡ name_only (name_of g d p.first) 1 → x ≡ difference (name_at g d h e p) (on_first g d h e p)
-        (on_second g d h e p)
-    unfolding difference name_at on_first on_second
-    diff-first k q = q ∙ (rw k)
+  pub diff-first : (s : ℕ) → name_only (name_of g d s) 1 ≡ difference (name_at g d h e (First s)) (on_first g d h e (First s)) (on_second g d h e (First s))
+  unfolding difference name_at on_first on_second
+  diff-first s = refl
 
-    pub diff-second : {x : Difference} → p.kind ≡ 2 → x ≡ name_only (name_of h e p.second) 2 → x ≡ difference (name_at g d h e p) (on_first g d h e p)
-        (on_second g d h e p)
-    unfolding difference name_at on_first on_second
-    diff-second k q = q ∙ (rw k)
+  pub diff-second : (t : ℕ) → name_only (name_of h e t) 2 ≡ difference (name_at g d h e (Second t)) (on_first g d h e (Second t)) (on_second g d h e (Second t))
+  unfolding difference name_at on_first on_second
+  diff-second t = refl
 
-    module _ (k : p.kind ≡ 1 → ⊥) (l : p.kind ≡ 2 → ⊥) where
-      on_both : difference (name_at g d h e p) (on_first g d h e p) (on_second g d h e p)
-          ≡ cond (any (system g d p.first ∷ system h e p.second ∷ [])) (name_only (name_of g d p.first) 0)
-          (unlike (name_of g d p.first) (file_at g d p.first) (file_at h e p.second))
-      unfolding difference name_at on_first on_second file_at
-      on_both = rw (ne_eqb p.kind 1 k, ne_eqb p.kind 2 l)
+  module _ (s t : ℕ) where
+    on_both : difference (name_at g d h e (Both s t)) (on_first g d h e (Both s t)) (on_second g d h e (Both s t))
+        ≡ cond (any (system g d s ∷ system h e t ∷ [])) (name_only (name_of g d s) 0) (unlike (name_of g d s) (file_at g d s) (file_at h e t))
+    unfolding difference name_at on_first on_second file_at
+    on_both = refl
 
-      pub diff-system : {x : Difference} → system g d p.first ≡ true → x ≡ name_only (name_of g d p.first) 0 → x ≡ difference (name_at g d h e p)
-          (on_first g d h e p) (on_second g d h e p)
-      diff-system u q = q ∙ sym (on_both ∙ ap (λ (b : Bool). cond b (name_only (name_of g d p.first) 0)
-          (unlike (name_of g d p.first) (file_at g d p.first) (file_at h e p.second))) (any-hit u _))
+    pub diff-system : {x : Difference} → (system g d s || system h e t) ≡ true → x ≡ name_only (name_of g d s) 0
+        → x ≡ difference (name_at g d h e (Both s t)) (on_first g d h e (Both s t)) (on_second g d h e (Both s t))
+    diff-system u q = q ∙ sym (on_both ∙ ap (λ (b : Bool). cond b (name_only (name_of g d s) 0)
+        (unlike (name_of g d s) (file_at g d s) (file_at h e t))) (any-two _ _ ∙ u))
 
-      module _ (u : system g d p.first ≡ false) where
-        pub diff-system-2 : {x : Difference} → system h e p.second ≡ true → x ≡ name_only (name_of g d p.first) 0 → x ≡ difference (name_at g d h e p)
-            (on_first g d h e p) (on_second g d h e p)
-        diff-system-2 v q = q ∙ sym (on_both ∙ ap (λ (b : Bool). cond b (name_only (name_of g d p.first) 0)
-            (unlike (name_of g d p.first) (file_at g d p.first) (file_at h e p.second))) (any-skip u _ ∙ any-hit v _))
+    pub diff-unlike : {x : Difference} → (system g d s || system h e t) ≡ false → x ≡ unlike (name_of g d s) (file_at g d s) (file_at h e t)
+        → x ≡ difference (name_at g d h e (Both s t)) (on_first g d h e (Both s t)) (on_second g d h e (Both s t))
+    diff-unlike u q = q ∙ sym (on_both ∙ ap (λ (b : Bool). cond b (name_only (name_of g d s) 0)
+        (unlike (name_of g d s) (file_at g d s) (file_at h e t))) (any-two _ _ ∙ u))
 
-        pub diff-unlike : {x : Difference} → system h e p.second ≡ false → x ≡ unlike (name_of g d p.first) (file_at g d p.first)
-            (file_at h e p.second) → x ≡ difference (name_at g d h e p) (on_first g d h e p) (on_second g d h e p)
-        diff-unlike v q =
-            q ∙ sym (on_both ∙ ap (λ (b : Bool). cond b (name_only (name_of g d p.first) 0)
-            (unlike (name_of g d p.first) (file_at g d p.first) (file_at h e p.second)))
-            (any-skip u (system h e p.second ∷ []) ∙ any-skip v [] ∙ any_none))
+  -- the same of a pair that is known to be that one
+  pub diff-at : {x : Difference} {p q : Pair} → p ≡ q → x ≡ difference (name_at g d h e q) (on_first g d h e q) (on_second g d h e q)
+      → x ≡ difference (name_at g d h e p) (on_first g d h e p) (on_second g d h e p)
+  diff-at {x} z f = subst (λ (r : Pair). x ≡ difference (name_at g d h e r) (on_first g d h e r) (on_second g d h e r)) (sym z) f

@@ -8,42 +8,29 @@ ghost use Rattle.meaning.specs.Plain.{file_at};
 ghost use Rattle.layout.specs.Room.{Room, Slot};
 ghost use Rattle.differences.specs.Compare.{name_only, unlike, difference, tells_none, tell_first, differences, compare};
 ghost use Rattle.compare_order.specs.Whole.{WholeDisk, StartsFile};
-ghost use Rattle.compare_order.specs.Walk.{Files, name_at, on_first, on_second, behind};
+ghost use Rattle.compare_order.specs.Walk.{Files, name_at, on_first, on_second};
 ghost use Rattle.compare.specs.Kind.{contents_differ, kind_of};
 
 use compare_order::Pair;
 use differences::Difference;
 use meaning::{Geometry, Refusal};
 
-// So many names at the most: each directory has fewer than 256 slots.
-const MOST_NAMES: usize = 512;
-
 // Whether two contents differ that part at `at`.
 fn contents_differ(at: usize, n: usize, m: usize) -> bool
     ensures { result ≡ contents_differ at n m }
 {
-    if n != m {
-        return true;
-    }
-    at != n
+    n != m || at != n
 }
 
+#[tactic(auto, unfolding(crate::specs::Kind::kind_of, meaning::specs::Lists::any))]
 fn kind_of(contents: bool, size: bool, date: bool, other: bool) -> u8
     ensures { result ≡ kind_of contents size date other }
 {
-    if contents {
-        return 3;
+    if contents || size || date || other {
+        3
+    } else {
+        0
     }
-    if size {
-        return 3;
-    }
-    if date {
-        return 3;
-    }
-    if other {
-        return 3;
-    }
-    0
 }
 
 // A difference, or none, of which only the name counts.
@@ -94,19 +81,17 @@ fn difference_at(first: &[u8], g: Geometry, second: &[u8], h: Geometry, p: Pair)
     ensures { result ≡ difference (name_at g first.now h second.now p) (on_first g first.now h second.now p)
         (on_second g first.now h second.now p) }
 {
-    if p.kind == 1 {
-        return name_only(first, g, p.first, 1);
+    match p {
+        Pair::First(s) => name_only(first, g, s, 1),
+        Pair::Second(t) => name_only(second, h, t, 2),
+        Pair::Both(s, t) => {
+            if layout::system(first, g, s) || layout::system(second, h, t) {
+                name_only(first, g, s, 0)
+            } else {
+                unlike(first, g, second, h, s, t)
+            }
+        }
     }
-    if p.kind == 2 {
-        return name_only(second, h, p.second, 2);
-    }
-    if layout::system(first, g, p.first) {
-        return name_only(first, g, p.first, 0);
-    }
-    if layout::system(second, h, p.second) {
-        return name_only(first, g, p.first, 0);
-    }
-    unlike(first, g, second, h, p.first, p.second)
 }
 
 // Nothing told: a refusal with the image it names, or "no more".
@@ -125,17 +110,6 @@ pub fn tells_none(c: Refusal) -> Difference
     }
 }
 
-// How many files of a table were met after a pair of that kind, i of them before it: one more, unless the pair is of the other disk alone.
-fn behind(kind: u8, other: u8, i: usize) -> usize
-    requires { i ≤ 256 }
-    ensures { result ≡ behind kind other i }
-{
-    if kind == other {
-        return i;
-    }
-    i + 1
-}
-
 // The difference of that number, by rising names; or "no more".
 fn told(first: &[u8], g: Geometry, second: &[u8], h: Geometry, number: usize) -> Difference
     requires { WholeDisk g first.now × WholeDisk h second.now }
@@ -148,12 +122,16 @@ fn told(first: &[u8], g: Geometry, second: &[u8], h: Geometry, number: usize) ->
     let mut left = number;
     let mut i = 0;
     let mut j = 0;
-    let mut k = 0;
-    while k < MOST_NAMES {
-        let p = compare_order::next_pair(first, g, second, h, &ours, n, i, &theirs, m, j);
-        if p.kind == 0 {
-            return tells_none(refusal::unplaced(0));
-        }
+    while let Some(p) = compare_order::next_pair(
+        first,
+        g,
+        second,
+        h,
+        &ours[..n],
+        i,
+        &theirs[..m],
+        j,
+    ) {
         let x = difference_at(first, g, second, h, p);
         if x.kind != 0 {
             if left == 0 {
@@ -161,9 +139,14 @@ fn told(first: &[u8], g: Geometry, second: &[u8], h: Geometry, number: usize) ->
             }
             left -= 1;
         }
-        i = behind(p.kind, 2, i);
-        j = behind(p.kind, 1, j);
-        k += 1;
+        match p {
+            Pair::First(_) => i += 1,
+            Pair::Second(_) => j += 1,
+            Pair::Both(_, _) => {
+                i += 1;
+                j += 1;
+            }
+        }
     }
     tells_none(refusal::unplaced(0))
 }

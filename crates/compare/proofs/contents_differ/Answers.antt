@@ -7,8 +7,8 @@ use Rattle.compare.proofs.contents_differ.Goals as goal
 
 pub returns-then-n-m : goal.returns-then-n-m
 unfolding contents_differ
-returns-then-n-m c = sym (ap not (all-no (ne_eqb _ _ c.if-n-m.true) _))
+returns-then-n-m c = let e = ne_eqb _ _ c.if-n-m.true in ap not e ∙ sym (ap not (all-no e _))
 
-pub returns : goal.returns
+pub returns-else-n-m : goal.returns-else-n-m
 unfolding contents_differ
-returns c = sym (ap not (all_yes (eq-eqb _ _ c.if-n-m.false) _ ∙ all_one _))
+returns-else-n-m c = sym (ap not (all_yes (eq-eqb _ _ c.if-n-m.false) _ ∙ all_one _))

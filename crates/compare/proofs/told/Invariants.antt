@@ -1,13 +1,12 @@
 use Rattle.compare.proofs.Telling.{TellingBoth}
-use Rattle.compare_order.specs.Table.{InOrder}
-use lib.ListN.{length}
-use mathlib.Core.Path.{◌≡◌}
-use Prim.Native.Nat.{◌-◌}
+use lib.ListN.{length, take}
+use Prim.Native.Nat.{◌+◌, ◌-◌}
 use Rattle.compare.proofs.told.Given as goal
 
-abbrev pub invariant-loop-k : goal.invariant-loop-k
-invariant-loop-k l = TellingBoth l.g l.first l.h l.second l.number l.left l.ours l.n l.i l.theirs l.m l.j l.k × InOrder l.g l.first
-    l.ours l.n 256 × InOrder l.h l.second l.theirs l.m 256 × (length l.ours ≡ 256) × (length l.theirs ≡ 256)
+abbrev pub invariant-loop-p : goal.invariant-loop-p
+invariant-loop-p l = TellingBoth l.g l.first l.h l.second l.number l.left (take l.n l.ours) (length (take l.n l.ours)) l.i (take l.m l.theirs)
+    (length (take l.m l.theirs)) l.j
 
-abbrev pub decreases-loop-k : goal.decreases-loop-k
-decreases-loop-k l = 512 - l.k
+-- each turn meets a file of one table or of both, of which there are 256 at the most
+abbrev pub decreases-loop-p : goal.decreases-loop-p
+decreases-loop-p l = (256 - l.i) + (256 - l.j)
