@@ -3,7 +3,8 @@ use mathlib.Core.Path.{◌≡◌, refl, sym, ap, ◌∙◌}
 use mathlib.Core.List.{List, [], ◌∷◌}
 use Prim.Native.Nat.{ℕ, zero, suc, ◌+◌, ◌*◌, ◌≤◌, ◌<◌}
 use native.Mathlib.Omega.{arith}
-use lib.ListN.{length, get_or}
+use lib.ListN.{length, get_or, take, drop}
+use Rattle.std.proofs.Common.{drop-cons}
 use Rattle.play_trace.specs.Bits.{bits, field, length-bits}
 use Rattle.play_trace.specs.Steps.{step_of, no_step}
 use Rattle.play_trace.specs.Reading.{Trace, Reading, reads, bad_at, on_read, fields_from, names_from, call_start, numbers_at, read_calls, read_bits, read_trace}
@@ -122,29 +123,17 @@ name-there bs k = go (read_bits bs) (front bs)
     go r (cut a b c e) h = absurd (let q : ⊥ = omega arith in q)
     go r (calls n o) h = inner n o (read_calls bs n (whole_calls bs n) 0) h
 
--- eleven bytes as fields
+-- bytes as fields
 byte-there : (d : List ℕ) (q k : ℕ) → q ≡ 8 * k → k < length d → get_or d k 0 < 256 → get_or d k 0 ≡ field (bits d) q 8
 byte-there d q k e h s = sym (ap (λ (x : ℕ). field (bits d) x 8) e ∙ byte-field d k h s)
 
-pub name-bytes : (d : List ℕ) (at : ℕ) → at + 11 ≤ length d → ((i : ℕ) → get_or d i 0 < 256) → (p : ℕ) → p ≡ 8 * at
-    → get_or d at 0 ∷ get_or d (at + 1) 0 ∷ get_or d (at + 2) 0 ∷ get_or d (at + 3) 0 ∷ get_or d (at + 4) 0 ∷ get_or d (at + 5) 0 ∷ get_or d (at + 6) 0
-    ∷ get_or d (at + 7) 0
-    ∷ get_or d (at + 8) 0 ∷ get_or d (at + 9) 0 ∷ get_or d (at + 10) 0 ∷ [] ≡ fields_from (bits d) p 8 11
+pub name-bytes : (d : List ℕ) (m at p : ℕ) → at + m ≤ length d → ((i : ℕ) → get_or d i 0 < 256) → p ≡ 8 * at
+    → take m (drop at d) ≡ fields_from (bits d) p 8 m
 unfolding fields_from
-name-bytes d at h s p e =
-    let f : (q k : ℕ) → q ≡ 8 * k → k < length d → get_or d k 0 ≡ field (bits d) q 8 = λ q k e h. byte-there d q k e h (s k) in
-    let f0 = f p at (omega arith) (omega arith) in
-    let f1 = f (p + 8) (at + 1) (omega arith) (omega arith) in
-    let f2 = f (p + 8 + 8) (at + 2) (omega arith) (omega arith) in
-    let f3 = f (p + 8 + 8 + 8) (at + 3) (omega arith) (omega arith) in
-    let f4 = f (p + 8 + 8 + 8 + 8) (at + 4) (omega arith) (omega arith) in
-    let f5 = f (p + 8 + 8 + 8 + 8 + 8) (at + 5) (omega arith) (omega arith) in
-    let f6 = f (p + 8 + 8 + 8 + 8 + 8 + 8) (at + 6) (omega arith) (omega arith) in
-    let f7 = f (p + 8 + 8 + 8 + 8 + 8 + 8 + 8) (at + 7) (omega arith) (omega arith) in
-    let f8 = f (p + 8 + 8 + 8 + 8 + 8 + 8 + 8 + 8) (at + 8) (omega arith) (omega arith) in
-    let f9 = f (p + 8 + 8 + 8 + 8 + 8 + 8 + 8 + 8 + 8) (at + 9) (omega arith) (omega arith) in
-    let f10 = f (p + 8 + 8 + 8 + 8 + 8 + 8 + 8 + 8 + 8 + 8) (at + 10) (omega arith) (omega arith) in
-    λ j. f0 j ∷ f1 j ∷ f2 j ∷ f3 j ∷ f4 j ∷ f5 j ∷ f6 j ∷ f7 j ∷ f8 j ∷ f9 j ∷ f10 j ∷ []
+name-bytes d zero at p h s e = refl
+name-bytes d (suc m) at p h s e =
+    ap (take (suc m)) (drop-cons d at 0 (omega arith))
+    ∙ (λ j. byte-there d p at e (omega arith) (s at) j ∷ name-bytes d m (suc at) (p + 8) (omega arith) s (omega arith) j)
 
 -- the same in bytes, as the code asks it
 pub record StepBytes (d : List ℕ) (i : ℕ) : Type 0 where

@@ -1,6 +1,6 @@
 -- Laws of one call: what its numbers tell.
 use mathlib.Core.Path.{◌≡◌, refl, sym, ap, ◌∙◌}
-use mathlib.Core.Bool.{Bool, true, false, not, cond, or-false}
+use mathlib.Core.Bool.{Bool, true, false, not, cond}
 use mathlib.Core.List.{List, [], ◌∷◌}
 use Prim.Native.Nat.{ℕ}
 use lib.Dec.{eqb, ltb}
@@ -9,15 +9,6 @@ use Rattle.play_trace.specs.Steps.{Field, the_operation, the_file, the_position,
 use Rattle.play_trace.specs.Steps.{first_bad, call_of, step_of}
 use Rattle.play_trace.specs.declared.Call.TheVariants.{Create, SequentialWrite, RandomWrite, Allot, Trim, Kill, Read}
 use Rattle.play_trace.specs.declared.Numbers.{Numbers}
-
--- the last operation of a list
-pub position-last : (op : ℕ) → (op ≡ 2 → ⊥) → (op ≡ 3 → ⊥) → (op ≡ 4 → ⊥) → eqb op 7 ≡ uses op the_position
-unfolding uses
-position-last op a b c = sym (rw (ne_eqb op 2 a, ne_eqb op 3 b, ne_eqb op 4 c) (or-false (eqb op 7)))
-
-pub length_last : (op : ℕ) → (op ≡ 1 → ⊥) → (op ≡ 2 → ⊥) → (op ≡ 3 → ⊥) → eqb op 7 ≡ uses op the_length
-unfolding uses
-length_last op a b c = sym (rw (ne_eqb op 1 a, ne_eqb op 2 b, ne_eqb op 3 c) (or-false (eqb op 7)))
 
 -- each field
 module _ (n : ℕ) (m : Numbers) where

@@ -65,7 +65,8 @@ pub struct Numbers {
 }
 
 // What the check of a trace tells: of a well-formed one how many calls it has; of any other the place of its first fault, `byte` whole bytes and
-// `bit` bits behind its beginning. What has no value is 0.
+// `bit` bits behind its beginning. What has no value is 0. (No Result: `tell` is a definition over these fields, by which play_session says what
+// is refused, and play_samples' theorems name them.)
 #[derive(Clone, Copy)]
 pub struct Checked {
     pub well: bool,
@@ -74,18 +75,18 @@ pub struct Checked {
     pub bit: usize,
 }
 
-// The numbers of the call that starts at byte `at`.
+// The numbers of the call that starts at byte `at`. (Its bytes one by one: a pattern over them would need an arm for another length.)
 fn numbers_at(trace: &[u8], at: usize) -> Numbers
     requires { at + 7 ≤ length trace.now }
     ensures { result ≡ numbers_at (bits trace.now) (8 * at) }
 {
-    let b0 = layout::wide(trace[at]);
-    let b1 = layout::wide(trace[at + 1]);
-    let b2 = layout::wide(trace[at + 2]);
-    let b3 = layout::wide(trace[at + 3]);
-    let b4 = layout::wide(trace[at + 4]);
-    let b5 = layout::wide(trace[at + 5]);
-    let b6 = layout::wide(trace[at + 6]);
+    let b0 = usize::from(trace[at]);
+    let b1 = usize::from(trace[at + 1]);
+    let b2 = usize::from(trace[at + 2]);
+    let b3 = usize::from(trace[at + 3]);
+    let b4 = usize::from(trace[at + 4]);
+    let b5 = usize::from(trace[at + 5]);
+    let b6 = usize::from(trace[at + 6]);
     Numbers {
         operation: b0 / 32,
         file: b0 % 32,
@@ -97,63 +98,39 @@ fn numbers_at(trace: &[u8], at: usize) -> Numbers
 }
 
 // Which operations use which field.
+#[tactic(auto, unfolding(crate::specs::Steps::uses))]
 fn uses_position(operation: usize) -> bool
     ensures { result ≡ uses operation the_position }
 {
-    if operation == 2 {
-        return true;
-    }
-    if operation == 3 {
-        return true;
-    }
-    if operation == 4 {
-        return true;
-    }
-    operation == 7
+    matches!(operation, 2 | 3 | 4 | 7)
 }
 
+#[tactic(auto, unfolding(crate::specs::Steps::uses))]
 fn uses_length(operation: usize) -> bool
     ensures { result ≡ uses operation the_length }
 {
-    if operation == 1 {
-        return true;
-    }
-    if operation == 2 {
-        return true;
-    }
-    if operation == 3 {
-        return true;
-    }
-    operation == 7
+    matches!(operation, 1 | 2 | 3 | 7)
 }
 
+#[tactic(auto, unfolding(crate::specs::Steps::uses))]
 fn uses_fill(operation: usize) -> bool
     ensures { result ≡ uses operation the_fill }
 {
-    if operation == 2 {
-        return true;
-    }
-    operation == 3
+    matches!(operation, 2 | 3)
 }
 
 // A field that any number may stand in if it is used, and else none but 0.
 fn fine(used: bool, value: usize) -> bool
     ensures { result ≡ cond used true (eqb value 0) }
 {
-    if used {
-        return true;
-    }
-    value == 0
+    used || value == 0
 }
 
 // The file number: below the number of names if it is used.
 fn fine_file(used: bool, value: usize, names: usize) -> bool
     ensures { result ≡ cond used (ltb value names) (eqb value 0) }
 {
-    if used {
-        return value < names;
-    }
-    value == 0
+    if used { value < names } else { value == 0 }
 }
 
 // Where in its call the first bad field starts, 56 where all are good.
@@ -170,7 +147,7 @@ fn bad_field(m: Numbers, names: usize) -> usize
     if !fine(uses_length(operation), m.length) {
         return 32;
     }
-    if !fine(uses_fill(operation), layout::wide(m.fill)) {
+    if !fine(uses_fill(operation), usize::from(m.fill)) {
         return 41;
     }
     if m.zero != 0 {
@@ -183,49 +160,29 @@ fn bad_field(m: Numbers, names: usize) -> usize
 fn step_of(m: Numbers) -> Step
     ensures { result ≡ step_of m }
 {
-    let operation = m.operation;
-    let file = m.file;
-    let position = m.position;
-    let length = m.length;
-    let fill = m.fill;
-    match operation {
-        1 => Step {
-            file,
-            call: Call::Create(CreateWith { length }),
-        },
-        2 => Step {
-            file,
-            call: Call::SequentialWrite(WriteWith {
-                position,
-                length,
-                fill,
-            }),
-        },
-        3 => Step {
-            file,
-            call: Call::RandomWrite(WriteWith {
-                position,
-                length,
-                fill,
-            }),
-        },
-        4 => Step {
-            file,
-            call: Call::Allot(AllotWith { sector: position }),
-        },
-        5 => Step {
-            file,
-            call: Call::Trim,
-        },
-        6 => Step {
-            file,
-            call: Call::Kill,
-        },
-        _ => Step {
-            file,
-            call: Call::Read(ReadWith { position, length }),
-        },
-    }
+    let Numbers {
+        operation,
+        file,
+        position,
+        length,
+        fill,
+        ..
+    } = m;
+    let with = WriteWith {
+        position,
+        length,
+        fill,
+    };
+    let call = match operation {
+        1 => Call::Create(CreateWith { length }),
+        2 => Call::SequentialWrite(with),
+        3 => Call::RandomWrite(with),
+        4 => Call::Allot(AllotWith { sector: position }),
+        5 => Call::Trim,
+        6 => Call::Kill,
+        _ => Call::Read(ReadWith { position, length }),
+    };
+    Step { file, call }
 }
 
 // The calls behind the names, from the first on.
@@ -235,8 +192,7 @@ fn check_calls(trace: &[u8], names: usize) -> Checked
 {
     let first = 1 + 11 * names;
     let whole = (trace.len() - first) / 7;
-    let mut i = 0;
-    while i < whole {
+    for i in 0..whole {
         let at = first + 7 * i;
         let m = numbers_at(trace, at);
         let bad = bad_field(m, names);
@@ -256,7 +212,6 @@ fn check_calls(trace: &[u8], names: usize) -> Checked
                 bit: 0,
             };
         }
-        i += 1;
     }
     Checked {
         well: false,
@@ -270,7 +225,7 @@ fn check_calls(trace: &[u8], names: usize) -> Checked
 pub fn check_trace(trace: &[u8]) -> Checked
     ensures { result ≡ tell (read_trace trace.now) }
 {
-    if trace.len() < 1 {
+    if trace.is_empty() {
         return Checked {
             well: false,
             calls: 0,
@@ -278,7 +233,7 @@ pub fn check_trace(trace: &[u8]) -> Checked
             bit: 0,
         };
     }
-    let names = layout::wide(trace[0]);
+    let names = usize::from(trace[0]);
     if names < 1 {
         return Checked {
             well: false,
@@ -311,7 +266,7 @@ pub fn step_at(trace: &[u8], i: usize) -> Step
     requires { i < length (steps_of (read_trace trace.now)) }
     ensures { result ≡ get_or (steps_of (read_trace trace.now)) i no_step }
 {
-    let names = layout::wide(trace[0]);
+    let names = usize::from(trace[0]);
     step_of(numbers_at(trace, 1 + 11 * names + 7 * i))
 }
 
@@ -320,19 +275,9 @@ fn eleven_at(trace: &[u8], at: usize) -> [u8; 11]
     requires { at + 11 ≤ length trace.now }
     ensures { result ≡ fields_from (bits trace.now) (8 * at) 8 11 }
 {
-    [
-        trace[at],
-        trace[at + 1],
-        trace[at + 2],
-        trace[at + 3],
-        trace[at + 4],
-        trace[at + 5],
-        trace[at + 6],
-        trace[at + 7],
-        trace[at + 8],
-        trace[at + 9],
-        trace[at + 10],
-    ]
+    let mut name = [0; 11];
+    name.copy_from_slice(&trace[at..at + 11]);
+    name
 }
 
 // Name k of a well-formed trace: that of the file of this number.

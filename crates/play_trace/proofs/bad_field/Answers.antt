@@ -28,26 +28,26 @@ returns-then-not-fine-3 c = let uses-fill = c.uses_fill in let if3 = c.if-not-fi
     bad-fill n m (file-is n m fine-file.ensures if1.false)
     (position-is n m uses-position.ensures fine.ensures if2.false)
     (length-is n m uses-length.ensures fine2.ensures if3.false)
-    (fill_is n m uses-fill.ensures c.wide.ensures.is c.fine-3.ensures c.if-not-fine-3.true)
+    (fill_is n m uses-fill.ensures c.from.ensures c.fine-3.ensures c.if-not-fine-3.true)
 
 -- src/lib.rt:178:9
 pub returns-then-m-ne0 : goal.returns-then-m-ne0
-returns-then-m-ne0 c = let fine3 = c.fine-3 in let wide = c.wide in let uses-fill = c.uses_fill in let if3 = c.if-not-fine-2 in
+returns-then-m-ne0 c = let fine3 = c.fine-3 in let from = c.from in let uses-fill = c.uses_fill in let if3 = c.if-not-fine-2 in
     let fine2 = c.fine-2 in let uses-length = c.uses_length in let if2 = c.if-not-fine in let fine = c.fine in let uses-position = c.uses_position in
     let if1 = c.if-not-fine_file in let fine-file = c.fine_file in let a = c.args in let n = a.names in let m = a.m in
     bad-zero n m (file-is n m fine-file.ensures if1.false)
     (position-is n m uses-position.ensures fine.ensures if2.false)
     (length-is n m uses-length.ensures fine2.ensures if3.false)
-    (fill_is n m uses-fill.ensures wide.ensures.is fine3.ensures c.if-not-fine-3.false)
+    (fill_is n m uses-fill.ensures from.ensures fine3.ensures c.if-not-fine-3.false)
     (zero-not n m c.if-m-ne0.true)
 
 -- src/lib.rt:161:1
 pub returns : goal.returns
-returns c = let fine3 = c.fine-3 in let wide = c.wide in let uses-fill = c.uses_fill in let if3 = c.if-not-fine-2 in let fine2 = c.fine-2 in
+returns c = let fine3 = c.fine-3 in let from = c.from in let uses-fill = c.uses_fill in let if3 = c.if-not-fine-2 in let fine2 = c.fine-2 in
     let uses-length = c.uses_length in let if2 = c.if-not-fine in let fine = c.fine in let uses-position = c.uses_position in
     let if1 = c.if-not-fine_file in let fine-file = c.fine_file in let a = c.args in let n = a.names in let m = a.m in
     no-bad n m (file-is n m fine-file.ensures if1.false)
     (position-is n m uses-position.ensures fine.ensures if2.false)
     (length-is n m uses-length.ensures fine2.ensures if3.false)
-    (fill_is n m uses-fill.ensures wide.ensures.is fine3.ensures c.if-not-fine-3.false)
+    (fill_is n m uses-fill.ensures from.ensures fine3.ensures c.if-not-fine-3.false)
     (zero_is n m c.if-m-ne0.false)

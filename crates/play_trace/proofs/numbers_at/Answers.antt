@@ -6,11 +6,8 @@ use Rattle.play_trace.proofs.numbers_at.Goals as goal
 pub returns : goal.returns
 returns c = numbers-from c.args.trace.now c.args.at
     c.requires
-    (λ i. omega (
-      arith,
-      c.shared_slice_known-1.given i,
-    )) c.wide-b0.ensures.is
-    c.wide-b1.ensures.is
-    c.wide-b2.ensures.is
-    c.wide-b3.ensures.is c.wide-b4.ensures.is
-    c.wide-b5.ensures.is c.wide-b6.ensures.is
+    (λ i. omega (arith, c.type_inv.trace i)) c.from-b0.ensures
+    c.from-b1.ensures
+    c.from-b2.ensures
+    c.from-b3.ensures c.from-b4.ensures
+    c.from-b5.ensures c.from-b6.ensures

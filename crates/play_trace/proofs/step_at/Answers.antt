@@ -19,22 +19,22 @@ overflow_mul-i c = let s = step-bytes c.args.trace.now c.args.i c.requires in
 -- src/lib.rt:317:31
 pub overflow_add-names-2 : goal.overflow_add-names-2
 overflow_add-names-2 c = let s = step-bytes c.args.trace.now c.args.i c.requires in
-    let w : c.wide-names.result ≡ s.n = c.wide-names.ensures.is ∙ s.count (omega (arith, c.wide-names.ensures.is, c.wide-names.ensures.small)) in
+    let w : c.from-names.result ≡ s.n = c.from-names.ensures ∙ s.count (omega (arith, c.from-names.ensures)) in
     omega (arith, w, s.inside)
 
 -- src/lib.rt:317:13
 pub numbers_at-requires : goal.numbers_at-requires
 numbers_at-requires c = let s = step-bytes c.args.trace.now c.args.i
     c.requires in
-    let w : c.wide-names.result ≡ s.n = c.wide-names.ensures.is ∙ s.count (omega (arith, c.wide-names.ensures.is, c.wide-names.ensures.small)) in
+    let w : c.from-names.result ≡ s.n = c.from-names.ensures ∙ s.count (omega (arith, c.from-names.ensures)) in
     omega (arith, w, s.inside)
 
 -- src/lib.rt:312:1
 pub returns : goal.returns
 returns c = let s = step-bytes c.args.trace.now c.args.i
     c.requires in
-    let w : c.wide-names.result ≡ s.n = c.wide-names.ensures.is ∙ s.count
-    (omega (arith, c.wide-names.ensures.is, c.wide-names.ensures.small)) in
+    let w : c.from-names.result ≡ s.n = c.from-names.ensures ∙ s.count
+    (omega (arith, c.from-names.ensures)) in
     c.step_of.ensures ∙ ap step_of (c.numbers_at.ensures ∙ ap
     (λ (x : ℕ). numbers_at (bits c.args.trace.now)
     (8 * (1 + 11 * x + 7 * c.args.i))) w) ∙ sym s.step
