@@ -1,15 +1,17 @@
--- What is handed back of a name that comes in, and the loops that look for its first bad byte.
+-- What is handed back of a name that comes in, and the counts that find its first bad byte.
 use mathlib.Core.Path.{◌≡◌, refl, sym, ap, ◌∙◌}
 use mathlib.Core.List.{List, [], ◌∷◌, map}
 use mathlib.Core.Bool.{Bool, true, false, cond, ◌&&◌}
-use Prim.Native.Nat.{ℕ, ◌+◌, ◌-◌, ◌≤◌, ◌<◌}
+use Prim.Native.Nat.{ℕ, suc, ◌+◌, ◌-◌, ◌≤◌, ◌<◌}
 use native.Mathlib.Omega.{arith}
 use native.Mathlib.Nat.{zero-add}
+use native.Mathlib.Decide.{ℕ_discrete}
 use lib.ListN.{length, get_or, take, drop, replicate}
 use lib.Seq.{ext_get_or}
 use lib.Dec.{eqb, leb, ltb}
 use borrow.Author.Tests.{eq-eqb, ne_eqb, lt-ltb, le-ltb, lt-leb, le-leb}
-use Rattle.meaning.specs.Lists.{count}
+use Rattle.std.specs.List.{prefix_len, list_all}
+use Rattle.meaning.specs.Lists.{count, every}
 use Rattle.meaning.specs.Names.{letter, well_formed, fold_byte, fold, blanks, good, bad_place, no_place}
 use Rattle.meaning.specs.Refusal.{place_of}
 use Rattle.meaning.specs.declared.Incoming.{Incoming}
@@ -17,7 +19,6 @@ use Rattle.meaning.specs.declared.Refusal.{Refusal}
 use Rattle.lists.specs.Members
 use Rattle.laws.specs.Spelling.{fold-well, fold-length, well-place, place-well}
 use Rattle.name_spelling.specs.Hands.{Hands}
-use Rattle.name_spelling.proofs.Name.{part-more, part_none, type-part}
 
 -- What is handed back ---------------------------------------------------------------------------------------------------------
 
@@ -35,43 +36,36 @@ module _ {n : List ℕ} {r : Incoming} (h : Hands n r) where
       by true e = absurd (f (h.place ∙ well-place (fold n) e))
       by false e = e
 
--- The loops -------------------------------------------------------------------------------------------------------------------
+-- The counts ------------------------------------------------------------------------------------------------------------------
 
-module _ (n : List ℕ) (to i : ℕ) where
-  pub blanks-more : i < to → i < length n → eqb 0x20 (get_or n i 0) ≡ true → i + blanks (take (to - i) (drop i n)) ≡ i + 1 + blanks
-      (take (to - (i + 1)) (drop (i + 1) n))
-  unfolding blanks
-  blanks-more h l e =
-      ap (λ (xs : List ℕ). i + blanks xs) (part-more n to i h l) ∙ ap (λ (b : Bool). i + cond b (1 + blanks (take (to - (i + 1)) (drop (i + 1) n))) 0) e ∙
-      omega arith
+same_blank : (x : ℕ) → eqb x 0x20 ≡ eqb 0x20 x
+same_blank x = by (ℕ_discrete x 0x20)
+  where
+    by : Dec (x ≡ 0x20) → eqb x 0x20 ≡ eqb 0x20 x
+    by (yes e) = rw e refl
+    by (no f) = ne_eqb _ _ f ∙ sym (ne_eqb 0x20 x (λ q. f (sym q)))
 
-  pub blanks-stop : i < to → i < length n → eqb 0x20 (get_or n i 0) ≡ false → i + blanks (take (to - i) (drop i n)) ≡ i
-  unfolding blanks
-  blanks-stop h l e =
-      ap (λ (xs : List ℕ). i + blanks xs) (part-more n to i h l) ∙ ap (λ (b : Bool). i + cond b (1 + blanks (take (to - (i + 1)) (drop (i + 1) n))) 0) e ∙
-      omega arith
+pub all-blank : (xs : List ℕ) → list_all (λ x. eqb x 0x20) xs ≡ every (eqb 0x20) xs
+all-blank [] = refl
+all-blank (x ∷ xs) = λ i. same_blank x i && all-blank xs i
 
-  pub blanks-end : to ≤ i → i + blanks (take (to - i) (drop i n)) ≡ i
-  unfolding blanks
-  blanks-end h = ap (λ (xs : List ℕ). i + blanks xs) (part_none n to i h) ∙ omega arith
+pub count-blanks : (xs : List ℕ) → prefix_len (λ x. eqb x 0x20) xs ≡ blanks xs
+unfolding blanks
+count-blanks [] = refl
+count-blanks (x ∷ xs) = λ i. cond (same_blank x i) (1 + count-blanks xs i) 0
 
-  pub good_more : i < to → i < length n → letter (get_or n i 0) ≡ true → i + good (take (to - i) (drop i n)) ≡ i + 1 + good
-      (take (to - (i + 1)) (drop (i + 1) n))
-  unfolding good
-  good_more h l e =
-      let rest = take (to - (i + 1)) (drop (i + 1) n) in
-      ap (λ (xs : List ℕ). i + good xs) (part-more n to i h l) ∙ ap (λ (b : Bool). i + cond b (1 + good rest) (blanks (get_or n i 0 ∷ rest))) e ∙ omega arith
-
-  pub good-stop : i < to → i < length n → letter (get_or n i 0) ≡ false → i + good (take (to - i) (drop i n)) ≡ i + blanks (take (to - i) (drop i n))
-  unfolding good
-  good-stop h l e =
-      let rest = take (to - (i + 1)) (drop (i + 1) n) in
-      ap (λ (xs : List ℕ). i + good xs) (part-more n to i h l) ∙ ap (λ (b : Bool). i + cond b (1 + good rest) (blanks (get_or n i 0 ∷ rest))) e
-      ∙ sym (ap (λ (xs : List ℕ). i + blanks xs) (part-more n to i h l))
-
-  pub good-end : to ≤ i → i + good (take (to - i) (drop i n)) ≡ i
-  unfolding good
-  good-end h = ap (λ (xs : List ℕ). i + good xs) (part_none n to i h) ∙ omega arith
+-- letters, and blanks after them
+pub count-good : (xs : List ℕ) → prefix_len letter xs + blanks (drop (prefix_len letter xs) xs) ≡ good xs
+unfolding good blanks
+count-good [] = refl
+count-good (x ∷ xs) = by (letter x) (count-good xs)
+  where
+    by : (b : Bool) → prefix_len letter xs + blanks (drop (prefix_len letter xs) xs) ≡ good xs
+        → cond b (1 + prefix_len letter xs) 0 + blanks (drop (cond b (1 + prefix_len letter xs) 0) (x ∷ xs)) ≡ cond b (1 + good xs) (blanks (x ∷ xs))
+    by true e =
+        let s : 1 + prefix_len letter xs ≡ suc (prefix_len letter xs) = omega arith in
+        ap (λ (k : ℕ). k + blanks (drop k (x ∷ xs))) s ∙ omega (arith, e)
+    by false e = zero-add _
 
 -- The place, test by test -----------------------------------------------------------------------------------------------------
 
@@ -93,18 +87,14 @@ module _ (n : List ℕ) where
   started l e = rw (eq-eqb (length n) 11 l, e) refl
 
   -- the name is bad
-  pub place-name : {k : ℕ} → length n ≡ 11 → letter (get_or n 0 0) ≡ true → k ≡ 0 + good (take (8 - 0) (drop 0 n)) → k < 8 → k ≡ bad_place n
+  pub place-name : {k : ℕ} → length n ≡ 11 → letter (get_or n 0 0) ≡ true → k ≡ good (take 8 n) → k < 8 → k ≡ bad_place n
   place-name {k} l e q h =
-      let z : k ≡ good (take 8 n) = q ∙ zero-add (good (take 8 n)) in
-      z ∙ sym (started l e ∙ ap (λ (b : Bool). cond b (good (take 8 n)) (8 + good (drop 8 n))) (lt-ltb (good (take 8 n)) 8 (omega arith)))
+      q ∙ sym (started l e ∙ ap (λ (b : Bool). cond b (good (take 8 n)) (8 + good (drop 8 n))) (lt-ltb (good (take 8 n)) 8 (omega arith)))
 
   -- the type is, or nothing
-  pub place-type : {k j : ℕ} → length n ≡ 11 → letter (get_or n 0 0) ≡ true → k ≡ 0 + good (take (8 - 0) (drop 0 n)) → 8 ≤ k → j ≡ 8 + good
-      (take (11 - 8) (drop 8 n)) → j ≡ bad_place n
+  pub place-type : {k j : ℕ} → length n ≡ 11 → letter (get_or n 0 0) ≡ true → k ≡ good (take 8 n) → 8 ≤ k → j ≡ 8 + good (drop 8 n) → j ≡ bad_place n
   place-type {k} {j} l e q h w =
-      let z : k ≡ good (take 8 n) = q ∙ zero-add (good (take 8 n)) in
-      w ∙ ap (λ (xs : List ℕ). 8 + good xs) (type-part n l)
-      ∙ sym (started l e ∙ ap (λ (b : Bool). cond b (good (take 8 n)) (8 + good (drop 8 n))) (le-ltb (good (take 8 n)) 8 (omega arith)))
+      w ∙ sym (started l e ∙ ap (λ (b : Bool). cond b (good (take 8 n)) (8 + good (drop 8 n))) (le-ltb (good (take 8 n)) 8 (omega arith)))
 
 -- a well-formed name is its own fold
 pub hands-well : (n : List ℕ) {m : List ℕ} → well_formed n ≡ true → m ≡ n → Hands n (record { place = no_place; name = m })

@@ -40,5 +40,8 @@ module _ (n : List ℕ) (to i : ℕ) where
       ap padded (part-more h l) ∙ ap (λ (b : Bool). cond b (padded rest) (every (eqb 0x20) (get_or n i 0 ∷ rest))) e
       ∙ sym (ap (every (eqb 0x20)) (part-more h l))
 
+pub to-end : (n : List ℕ) (i : ℕ) → take (length n - i) (drop i n) ≡ drop i n
+to-end n i = take_all (length n - i) (drop i n) (simp length-drop (omega arith))
+
 pub type-part : (n : List ℕ) → length n ≡ 11 → take 3 (drop 8 n) ≡ drop 8 n
 type-part n h = take_all 3 (drop 8 n) (simp length-drop (omega arith))

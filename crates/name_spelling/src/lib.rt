@@ -2,6 +2,8 @@
 #![tactic(auto)]
 
 ghost use Rattle.std.specs.Prelude.{◌≡◌, true, ◌&&◌, ◌+◌, ◌-◌, ◌≤◌, eqb, length, get_or, take, drop};
+ghost use Rattle.std.specs.Prelude.{◌==◌};
+ghost use Rattle.std.specs.List.{list_all, prefix_len};
 ghost use Rattle.meaning.specs.Lists.{every};
 ghost use Rattle.meaning.specs.Names.{letter, padded, well_formed, fold_byte, fold, blanks, good, bad_place};
 ghost use Rattle.meaning.specs.Refusal.{place_of};
@@ -27,19 +29,11 @@ fn plain(x: u8) -> bool
     (x == 0x20) | letter(x)
 }
 
-// Whether the bytes of a name from one place up to another are all 20H.
-fn blank(name: &[u8], from: usize, to: usize) -> bool
-    requires { to ≤ length name.now }
-    ensures { result ≡ every (eqb 0x20) (take (to - from) (drop from name.now)) }
+// Whether all bytes are 20H.
+fn blank(bytes: &[u8]) -> bool
+    ensures { result ≡ list_all (λ x. x == 0x20) bytes.now }
 {
-    let mut i = from;
-    while i < to {
-        if name[i] != 0x20 {
-            return false;
-        }
-        i += 1;
-    }
-    true
+    bytes.iter().all(|b| *b == 0x20)
 }
 
 // Whether each of the first eight bytes of a name is allowed or 20H.
@@ -74,10 +68,10 @@ fn type_padded(name: &[u8]) -> bool
     ensures { result ≡ padded (take 3 (drop 8 name.now)) }
 {
     if !letter(name[8]) {
-        return blank(name, 8, 11);
+        return blank(&name[8..]);
     }
     if !letter(name[9]) {
-        return blank(name, 9, 11);
+        return blank(&name[9..]);
     }
     plain(name[10])
 }
@@ -86,126 +80,84 @@ fn type_padded(name: &[u8]) -> bool
 pub fn well_formed(name: &[u8]) -> bool
     ensures { result ≡ well_formed name.now }
 {
-    if name.len() != 11 {
-        return false;
-    }
-    if !eight_plain(name) {
-        return false;
-    }
-    if !blanks_last(name) {
-        return false;
-    }
-    type_padded(name)
+    name.len() == 11 && eight_plain(name) && blanks_last(name) && type_padded(name)
 }
 
-// The place of the first byte from one place up to another that is not 20H; the end where there is none.
-fn past_blanks(name: &[u8], from: usize, to: usize) -> usize
-    requires { (from ≤ to) × (to ≤ length name.now) }
-    ensures { result ≡ from + blanks (take (to - from) (drop from name.now)) }
+// How many bytes stand before the first that is not allowed.
+fn letters(bytes: &[u8]) -> usize
+    ensures { (result ≡ prefix_len letter bytes.now) × (result ≤ length bytes.now) }
 {
-    let mut i = from;
-    while i < to {
-        if name[i] != 0x20 {
-            return i;
-        }
-        i += 1;
-    }
-    i
+    bytes.iter().take_while(|b| letter(**b)).count()
 }
 
-// The place of the first byte from one place up to another that keeps that part from being padded right with 20H; the end where there
-// is none.
-fn past_good(name: &[u8], from: usize, to: usize) -> usize
-    requires { (from ≤ to) × (to ≤ length name.now) }
-    ensures { result ≡ from + good (take (to - from) (drop from name.now)) }
+// How many bytes stand before the first that is not 20H.
+fn blanks(bytes: &[u8]) -> usize
+    ensures { (result ≡ prefix_len (λ x. x == 0x20) bytes.now) × (result ≤ length bytes.now) }
 {
-    let mut i = from;
-    while i < to {
-        if !letter(name[i]) {
-            return past_blanks(name, i, to);
-        }
-        i += 1;
-    }
-    i
+    bytes.iter().take_while(|b| **b == 0x20).count()
+}
+
+// How many bytes stand before the first that keeps them from being padded right with 20H.
+fn good(bytes: &[u8]) -> usize
+    ensures { (result ≡ good bytes.now) × (result ≤ length bytes.now) }
+{
+    let n = letters(bytes);
+    n + blanks(&bytes[n..])
 }
 
 // The place of the first bad byte of a name.
 fn bad_place(name: &[u8]) -> usize
     ensures { result ≡ bad_place name.now }
 {
-    if name.len() != 11 {
+    if name.len() != 11 || !letter(name[0]) {
         return 0;
     }
-    if !letter(name[0]) {
-        return 0;
-    }
-    let k = past_good(name, 0, 8);
-    if k < 8 {
-        return k;
-    }
-    past_good(name, 8, 11)
+    let k = good(&name[..8]);
+    if k < 8 { k } else { 8 + good(&name[8..]) }
 }
 
 // A byte of a name that comes in: 61H to 7DH are taken as 41H to 5DH.
 fn fold_byte(x: u8) -> u8
     ensures { result ≡ fold_byte x }
 {
-    if x < 0x61 {
-        return x;
+    match x {
+        0x61..=0x7d => x - 0x20,
+        _ => x,
     }
-    if 0x7d < x {
-        return x;
-    }
-    x - 0x20
 }
 
 // A name of eleven bytes that comes in, folded.
-fn fold(name: &[u8]) -> [u8; 11]
-    requires { length name.now ≡ 11 }
-    ensures { result ≡ fold name.now }
+fn fold(name: [u8; 11]) -> [u8; 11]
+    ensures { result ≡ fold name }
 {
-    [
-        fold_byte(name[0]),
-        fold_byte(name[1]),
-        fold_byte(name[2]),
-        fold_byte(name[3]),
-        fold_byte(name[4]),
-        fold_byte(name[5]),
-        fold_byte(name[6]),
-        fold_byte(name[7]),
-        fold_byte(name[8]),
-        fold_byte(name[9]),
-        fold_byte(name[10]),
-    ]
+    name.map(fold_byte)
 }
 
 // What a name that comes in is taken for: the folded name, or the place of its first bad byte. A well-formed name folds to itself, so only
-// another is folded, and only there a bad byte is looked for.
+// another is folded, and only there a bad byte is looked for. Not an Option or a Result: `Incoming` is what the definition gives.
 pub fn incoming(name: &[u8]) -> Incoming
     ensures { Hands name.now result }
 {
-    let mut taken = [0u8; 11];
+    let none = [0; 11];
+    if name.len() != 11 {
+        return Incoming {
+            place: 0,
+            name: none,
+        };
+    }
+    let mut taken = [0; 11];
+    taken.copy_from_slice(name);
     if well_formed(name) {
-        copy::copy_into(&mut taken, name, 0);
         return Incoming {
             place: NO_PLACE,
             name: taken,
         };
     }
-    if name.len() != 11 {
-        return Incoming {
-            place: 0,
-            name: taken,
-        };
-    }
-    let folded = fold(name);
+    let folded = fold(taken);
     let place = bad_place(&folded);
-    if place != NO_PLACE {
-        return Incoming { place, name: taken };
-    }
     Incoming {
         place,
-        name: folded,
+        name: if place == NO_PLACE { folded } else { none },
     }
 }
 
@@ -213,8 +165,5 @@ pub fn incoming(name: &[u8]) -> Incoming
 pub fn place_of(c: Refusal) -> usize
     ensures { result ≡ place_of c }
 {
-    if c.number == 3 {
-        return c.at;
-    }
-    NO_PLACE
+    if c.number == 3 { c.at } else { NO_PLACE }
 }
