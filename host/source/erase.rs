@@ -132,7 +132,7 @@ impl<'a> File<'a> {
                 rest.find(|c| !is_word(c)).unwrap_or(rest.len())
             } else if first == '\'' {
                 self.label(rest)?
-            } else if first.is_ascii_punctuation() && !"'$?@\\`~".contains(first) {
+            } else if first.is_ascii_punctuation() && !"'$@\\`~".contains(first) {
                 1
             } else {
                 return self.unknown(self.at, &format!("the character {first:?} is not known here"));

@@ -1,16 +1,17 @@
 -- The chain of a killed file, entry by entry.
+use Rattle.std.specs.Prelude.{Some, None}
 use mathlib.Core.Path.{◌≡◌, refl, sym, ap, ◌∙◌}
 use mathlib.Core.List.{List, [], ◌∷◌, ◌++◌, append-nil}
-use mathlib.Core.Bool.{Bool, true, false, not, cond}
+use mathlib.Core.Bool.{Bool, true, false, cond}
 use mathlib.Core.Logic.{◌⊎◌, inl, inr}
 use Prim.Native.Nat.{ℕ, ◌+◌, ◌-◌, ◌*◌, ◌≤◌, ◌<◌}
 use native.Mathlib.Omega.{arith}
 use native.Mathlib.Nat.{sub-zero}
 use lib.ListN.{length, get_or, set, replicate, get_or-replicate, length-append}
 use lib.Dec.{eqb}
-use borrow.Author.Tests.{not-true, not-false, ne_eqb}
+use borrow.Author.Tests.{ne_eqb}
 use Rattle.meaning.specs.Lists.{every, each, distinct, all}
-use Rattle.meaning.specs.Layout.{granules, most_blocks}
+use Rattle.meaning.specs.Layout.{most_blocks}
 use Rattle.meaning.specs.Entries.{marker, link, entry_granules}
 use Rattle.meaning.specs.Chain.{chain_from}
 use Rattle.meaning.specs.Consistent.{follows_by, link_holds_by}
@@ -30,7 +31,6 @@ use Rattle.lists.specs.Members
 use Rattle.lists.specs.Members.{In, Distinct}
 use Rattle.back_taken.specs.Listed.{RunsOnDisk, first_of}
 use Rattle.back_chain.specs.Line.{Visits, Lined}
-use Rattle.back_chain.specs.declared.Visited.{Visited}
 use Rattle.back_taken.proofs.Steps.{first-steps}
 use Rattle.back_chain.proofs.First.{first-put, first-in}
 use Rattle.back_taken.proofs.OnDisk.{under-each}
@@ -112,23 +112,22 @@ module _ (g : Geometry) (d : List ℕ) where
       by (inr q) = rw q o
 
   -- one entry more
-  pub walked_more : {ps m m' met met' : List ℕ} {size at : ℕ} {v : Visited} → Walked' ps m met size → Slot g d at → Visits g d at m m' met met' v → v.ok ≡
-      true
-      → Walked' (ps ++ (at ∷ [])) m' met' (size + v.granules)
-  walked_more {ps} {m} {m'} {met} {met'} {size} {at} {v} w sl e ok =
-      let t : all (holds at ∷ allows m 1 0 (entry_granules g d at) ∷ allows met 1 0 (at ∷ []) ∷ []) ≡ true = sym e.answer ∙ ok in
+  pub walked_more : {ps m m' met met' : List ℕ} {size at v : ℕ} → Walked' ps m met size → Slot g d at → Visits g d at m m' met met' (Some v)
+      → Walked' (ps ++ (at ∷ [])) m' met' (size + v)
+  walked_more {ps} {m} {m'} {met} {met'} {size} {at} {v} w sl e =
+      let t : all (holds at ∷ allows m 1 0 (entry_granules g d at) ∷ allows met 1 0 (at ∷ []) ∷ []) ≡ true = sym e.answer in
       let k : holds at ≡ true = all-at _ t 0 in
       let h = w.hold in
       record {
         hold = every_append holds ps (at ∷ []) ∙ rw (h, k);
         own_open = ap (allows blank 1 0) (own-snoc ps at) ∙ joined blank (own ps) (entry_granules g d at) w.map w.own_open (all-at _ t 1);
         map =
-            e.map ok ∙ ap (λ (l : List ℕ). marked l 0 (entry_granules g d at)) w.map ∙ sym (marked_append blank 0 (own ps) (entry_granules g d at))
+            e.visited.map ∙ ap (λ (l : List ℕ). marked l 0 (entry_granules g d at)) w.map ∙ sym (marked_append blank 0 (own ps) (entry_granules g d at))
             ∙ ap (marked blank 0) (sym (own-snoc ps at));
         open-met = joined fresh ps (at ∷ []) w.meets w.open-met (all-at _ t 2);
-        meets = e.meets ok ∙ ap (λ (l : List ℕ). marked l 0 (at ∷ [])) w.meets ∙ sym (marked_append fresh 0 ps (at ∷ []));
+        meets = e.visited.meets ∙ ap (λ (l : List ℕ). marked l 0 (at ∷ [])) w.meets ∙ sym (marked_append fresh 0 ps (at ∷ []));
         size_is =
-            ap (λ (j : ℕ). j + v.granules) w.size_is ∙ ap (λ (j : ℕ). length (own ps) + j) (e.granules-is ok)
+            ap (λ (j : ℕ). j + v) w.size_is ∙ ap (λ (j : ℕ). length (own ps) + j) e.visited.granules-is
             ∙ sym (length-append (own ps) (entry_granules g d at)) ∙ ap {B = ℕ} length (sym (own-snoc ps at));
         lie = lie-snoc w.lie (lies at sl k);
       }
@@ -138,10 +137,9 @@ module _ (g : Geometry) (d : List ℕ) where
   walked-said {ps} w = all_yes w.hold _ ∙ all_yes (open-once fresh ps w.open-met) _ ∙ all_yes (open-once blank (own ps) w.own_open) _ ∙ all_none
 
   -- an entry that does not hold with those before it: nor does the chain, whatever follows
-  pub walked-bad : {ps m m' met met' : List ℕ} {size at : ℕ} {v : Visited} → Room g d → Walked' ps m met size → Slot g d at → Visits g d at m m' met met' v →
-      not v.ok ≡ true
+  pub walked-bad : {ps m m' met met' : List ℕ} {size at : ℕ} → Room g d → Walked' ps m met size → Slot g d at → Visits g d at m m' met met' None
       → (rest : List ℕ) → said (ps ++ (at ∷ rest)) ≡ false
-  walked-bad {ps} {m} {m'} {met} {met'} {size} {at} {v} r w sl e bad rest = by (said (ps ++ (at ∷ rest))) refl
+  walked-bad {ps} {m} {m'} {met} {met'} {size} {at} r w sl e rest = by (said (ps ++ (at ∷ rest))) refl
     where
       by : (t : Bool) → said (ps ++ (at ∷ rest)) ≡ t → said (ps ++ (at ∷ rest)) ≡ false
       by false q = q
@@ -162,10 +160,10 @@ module _ (g : Geometry) (d : List ℕ) where
           = open-allows blank (own (ps ++ (at ∷ []))) (λ n i. blank-open g d n (under-each g d (ps ++ (at ∷ [])) lie n i))
           (Members.distinct-l (own (ps ++ (at ∷ []))) (own rest) own-once) in
           let b' : allows blank 1 0 (own ps ++ entry_granules g d at) ≡ true = rw (own-snoc ps at) at b in
-          let all_hold : v.ok ≡ true
+          let all_hold : false ≡ true
           = e.answer ∙ all_yes k _ ∙ all_yes (later blank (own ps) (entry_granules g d at) w.map b') _ ∙ all_yes (later fresh ps (at ∷ []) w.meets a) _
           ∙ all_none in
-          not-both all_hold (not-true v.ok bad)
+          not-both all_hold refl
 
   -- The chain: n entries of it are walked and written down, `at` is the next --------------------------------------------------
 
@@ -193,21 +191,16 @@ module _ (g : Geometry) (d : List ℕ) where
   unfolding chain_from
   chain-here at h = ap (λ (k : ℕ). chain_from g d k at) (left-more h)
 
-  pub lining-bad : {most s at n size : ℕ} {es es' m m' met met' : List ℕ} {v : Visited} → Room g d → Lining most s es m met at n size → n < most
-      → Visits g d at m m' met met' v → not v.ok ≡ true → Lined g d most s es' (record { ok = false; slots = 0; granules = 0 })
-  lining-bad {most} {s} {at} {n} {size} {es} {es'} r i h e bad =
+  pub lining-bad : {most s at n size : ℕ} {es es' m m' met met' : List ℕ} → Room g d → Lining most s es m met at n size → n < most
+      → Visits g d at m m' met met' None → Lined g d most s es' None
+  lining-bad {most} {s} {at} {n} {size} {es} {es'} r i h e =
       let c = i.chain-is ∙ ap (λ (l : List ℕ). first_of es n ++ l) (chain-here at h) in
-      record {
-        few = omega arith;
-        answer = sym (ap said c ∙ walked-bad r i.walked i.slot e bad _);
-        written = λ q. not-both q refl;
-      }
+      record { few = tt; answer = sym (ap said c ∙ walked-bad r i.walked i.slot e _); written = tt }
 
   -- one entry more is written down
-  pub lining-put : {most s at n size : ℕ} {es m m' met met' : List ℕ} {v : Visited} → Lining most s es m met at n size → n < length es → Visits g d at m m'
-      met met' v → not v.ok ≡ false
-      → Walked' (first_of (set es n at) (n + 1)) m' met' (size + v.granules)
-  lining-put {at = at} {n = n} {es = es} {v = v} i h e good = rw (first-put es n at h) (walked_more i.walked i.slot e (not-false v.ok good))
+  pub lining-put : {most s at n size v : ℕ} {es m m' met met' : List ℕ} → Lining most s es m met at n size → n < length es
+      → Visits g d at m m' met met' (Some v) → Walked' (first_of (set es n at) (n + 1)) m' met' (size + v)
+  lining-put {at = at} {n = n} {es = es} i h e = rw (first-put es n at h) (walked_more i.walked i.slot e)
 
   put-chain : {most s at n size : ℕ} {es m met : List ℕ} → Lining most s es m met at n size → n < length es → n < most
       → chain_from g d most s ≡ first_of (set es n at) (n + 1) ++ cond (eqb (marker g d at) 0xfe) (chain_from g d (most - (n + 1)) (link g d at)) []
@@ -218,13 +211,12 @@ module _ (g : Geometry) (d : List ℕ) where
 
   -- the whole chain is written down
   done : {most s n size : ℕ} {es m met : List ℕ} → chain_from g d most s ≡ first_of es n → Walked' (first_of es n) m met size → n ≤ 256 → size ≤ 32768
-      → Lined g d most s es (record { ok = true; slots = n; granules = size })
+      → Lined g d most s es (Some (record { slots = n; granules = size }))
   done {most} {s} {n} {size} {es} c w l k =
       record {
         few = k;
         answer = sym (ap said c ∙ walked-said w);
         written =
-            λ q.
             record {
               entries-are = c;
               granules-are = w.size_is ∙ ap (λ (z : List ℕ). length (own z)) (sym c);
@@ -232,17 +224,17 @@ module _ (g : Geometry) (d : List ℕ) where
             };
       }
 
-  pub lining-stop : {most s at n size x : ℕ} {es m m' met met' : List ℕ} {v : Visited} → Lining most s es m met at n size → n < length es → n < most → most ≤
+  pub lining-stop : {most s at n size x v : ℕ} {es m m' met met' : List ℕ} → Lining most s es m met at n size → n < length es → n < most → most ≤
       256
-      → Visits g d at m m' met met' v → not v.ok ≡ false → x ≡ marker g d at → x ≡ 0xff
-      → Lined g d most s (set es n at) (record { ok = true; slots = n + 1; granules = size + v.granules })
-  lining-stop {most} {s} {at} {n} {size} {x} {es} {v = v} i h l b e good q f =
-      let a = i.small in let few = e.few in
+      → Visits g d at m m' met met' (Some v) → x ≡ marker g d at → x ≡ 0xff
+      → Lined g d most s (set es n at) (Some (record { slots = n + 1; granules = size + v }))
+  lining-stop {most} {s} {at} {n} {size} {x} {v} {es} i h l b e q f =
+      let a = i.small in let few = e.visited.few in
       let z : eqb (marker g d at) 0xfe ≡ false = ne_eqb (marker g d at) 0xfe (λ y. let w : 0xff ≡ 0xfe = sym f ∙ q ∙ y in omega arith) in
       done
       (put-chain i h l ∙ ap (λ (t : Bool). first_of (set es n at) (n + 1) ++ cond t (chain_from g d (most - (n + 1)) (link g d at)) []) z ∙ append-nil
       (first_of (set es n at) (n + 1)))
-      (lining-put i h e good) (omega arith) (omega arith)
+      (lining-put i h e) (omega arith) (omega arith)
 
   -- a link that holds leads on to a slot
   links : (x : ℕ) → link_holds_by g d 0x80 x ≡ true → (marker g d x ≡ 0xff → ⊥) → (eqb (marker g d x) 0xfe ≡ true) × Slot g d (link g d x)
@@ -251,12 +243,12 @@ module _ (g : Geometry) (d : List ℕ) where
       let k = any_last _ _ h (ne_eqb (marker g d x) 0xff n) in
       (all-at _ k 0, slot-of g d (link g d x) (all-at _ (all-at _ k 1) 0))
 
-  pub lining-more : {most s at n size x t : ℕ} {es m m' met met' : List ℕ} {v : Visited} → Lining most s es m met at n size → n < length es → n < most
-      → Visits g d at m m' met met' v → not v.ok ≡ false → x ≡ marker g d at → (x ≡ 0xff → ⊥) → t ≡ link g d at
-      → Lining most s (set es n at) m' met' t (n + 1) (size + v.granules)
-  lining-more {most} {s} {at} {n} {size} {x} {t} {es} {v = v} i h l e good q f u =
-      let a = i.small in let few = e.few in
-      let ok : all (holds at ∷ _) ≡ true = sym e.answer ∙ not-false v.ok good in
+  pub lining-more : {most s at n size x t v : ℕ} {es m m' met met' : List ℕ} → Lining most s es m met at n size → n < length es → n < most
+      → Visits g d at m m' met met' (Some v) → x ≡ marker g d at → (x ≡ 0xff → ⊥) → t ≡ link g d at
+      → Lining most s (set es n at) m' met' t (n + 1) (size + v)
+  lining-more {most} {s} {at} {n} {size} {x} {t} {v} {es} i h l e q f u =
+      let a = i.small in let few = e.visited.few in
+      let ok : all (holds at ∷ _) ≡ true = sym e.answer in
       let k = links at (all-at _ (all-at _ ok 0) 1) (λ y. f (q ∙ y)) in
       record {
         few = omega arith;
@@ -265,11 +257,11 @@ module _ (g : Geometry) (d : List ℕ) where
         chain-is =
             put-chain i h l ∙ ap (λ (b : Bool). first_of (set es n at) (n + 1) ++ cond b (chain_from g d (most - (n + 1)) (link g d at)) []) k.0
             ∙ ap (λ (y : ℕ). first_of (set es n at) (n + 1) ++ chain_from g d (most - (n + 1)) y) (sym u);
-        walked = lining-put i h e good;
+        walked = lining-put i h e;
       }
 
   pub lining-end : {most s at n size : ℕ} {es m met : List ℕ} → Lining most s es m met at n size → most ≤ n → most ≤ 256 → Lined g d most s es
-      (record { ok = true; slots = n; granules = size })
+      (Some (record { slots = n; granules = size }))
   lining-end {most} {s} {at} {n} {size} {es} i h b =
       let a = i.small in let few = i.few in
       done

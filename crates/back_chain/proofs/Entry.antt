@@ -1,9 +1,9 @@
 -- One entry of a killed file: its pairs, its marker and link.
+use Rattle.std.specs.Prelude.{Some, None}
 use mathlib.Core.Path.{◌≡◌, refl, sym, ap, ◌∙◌}
 use mathlib.Core.List.{List, [], ◌∷◌}
 use mathlib.Core.Bool.{Bool, true, false, not, ◌&&◌, and-true}
 use Prim.Native.Nat.{ℕ, ◌≤◌, ◌<◌}
-use native.Mathlib.Omega.{arith}
 use lib.ListN.{get_or, set}
 use lib.Dec.{eqb, leb}
 use borrow.Author.Tests.{le-leb, lt-leb, not-false}
@@ -51,27 +51,16 @@ module _ (g : Geometry) (d : List ℕ) (s : ℕ) where
       ∙ sym (any-skip h _ ∙ any-one _ ∙ all_yes m _ ∙ all_yes (ap (follows_by g d 0x80 s) (sym q) ∙ sym f ∙ not-false r y) _ ∙ all_one _)
 
   -- what is met before
-  pub visits-met : {m m' met met' : List ℕ} → get_or met s 0 < 1 → Visits g d s m m' met met' (record { ok = false; granules = 0 })
+  pub visits-met : {m m' met met' : List ℕ} → get_or met s 0 < 1 → Visits g d s m m' met met' None
   unfolding allows
-  visits-met {m} {m'} {met} {met'} l =
-      record {
-        few = omega arith;
-        answer = sym (all-out _ 2 (ap (λ (b : Bool). b && true) (lt-leb 1 (get_or met s 0) l)));
-        granules-is = λ q. not-both q refl;
-        map = λ q. not-both q refl;
-        meets = λ q. not-both q refl;
-      }
+  visits-met {met = met} l = record { answer = sym (all-out _ 2 (ap (λ (b : Bool). b && true) (lt-leb 1 (get_or met s 0) l))); visited = tt }
 
   -- pairs that are not as they must be, or a granule that is met before
-  pub visits-pairs : {m m'' m' met met' : List ℕ} {p : Pairs} → Entered g d s 1 m m'' p → not p.ok ≡ true → Visits g d s m m' met met'
-      (record { ok = false; granules = 0 })
-  visits-pairs {m} {m''} {m'} {met} {met'} {p} e h =
+  pub visits-pairs : {m m'' m' met met' : List ℕ} → Entered g d s 1 m m'' None → Visits g d s m m' met met' None
+  visits-pairs {m} {m''} {m'} {met} {met'} e =
       record {
-        few = omega arith;
         answer = sym (by (all (BringBack.killed_entry_holds g d s ∷ allows m 1 0 (entry_granules g d s) ∷ allows met 1 0 (s ∷ []) ∷ [])) refl);
-        granules-is = λ q. not-both q refl;
-        map = λ q. not-both q refl;
-        meets = λ q. not-both q refl;
+        visited = tt;
       }
     where
       by : (t : Bool) → all (BringBack.killed_entry_holds g d s ∷ allows m 1 0 (entry_granules g d s) ∷ allows met 1 0 (s ∷ []) ∷ []) ≡ t
@@ -79,21 +68,22 @@ module _ (g : Geometry) (d : List ℕ) (s : ℕ) where
       by true q =
           let k = all-at _ q 0 in
           let fits : entry_fits g d s 1 m ≡ true = all_yes (all-at _ k 0) _ ∙ all_yes (all-at _ k 2) _ ∙ all_yes (all-at _ q 1) _ ∙ all_none in
-          not-both fits (is-no e.answer h)
+          not-both fits (sym e.answer)
       by false q = q
 
-  -- all is as it must be but, it may be, the link
-  pub visits-link : {m m' met : List ℕ} {p : Pairs} {r : Bool} → Entered g d s 1 m m' p → not p.ok ≡ false → 1 ≤ get_or met s 0 → r ≡ link_holds_by g d 0x80 s
-      → Visits g d s m m' met (set met s 0) (record { ok = r; granules = p.granules })
+  -- all is as it must be but the link
+  pub visits-astray : {m m'' met met' : List ℕ} → link_holds_by g d 0x80 s ≡ false → Visits g d s m m'' met met' None
+  visits-astray h = record { answer = sym (all-no (all-out _ 1 h) _); visited = tt }
+
+  -- all is as it must be
+  pub visits-link : {m m' met : List ℕ} {p : Pairs} → Entered g d s 1 m m' (Some p) → 1 ≤ get_or met s 0 → link_holds_by g d 0x80 s ≡ true
+      → Visits g d s m m' met (set met s 0) (Some p.granules)
   unfolding allows marked
-  visits-link {m} {m'} {met} {p} {r} e h l q =
-      let ok = not-false p.ok h in
-      let fits : entry_fits g d s 1 m ≡ true = sym e.answer ∙ ok in
+  visits-link {m} {m'} {met} {p} e l q =
+      let fits : entry_fits g d s 1 m ≡ true = sym e.answer in
       let met-is : (leb 1 (get_or met s 0) && true) ≡ true = ap (λ (b : Bool). b && true) (le-leb 1 (get_or met s 0) l) in
+      let w = e.taken in
       record {
-        few = e.few;
-        answer = q ∙ sym (middle (all-at _ fits 0) (all-at _ fits 1)) ∙ sym (head (all-at _ fits 2) met-is);
-        granules-is = λ t. e.granules-is ok;
-        map = λ t. e.map ok;
-        meets = λ t. refl;
+        answer = sym (head (all-at _ fits 2) met-is ∙ middle (all-at _ fits 0) (all-at _ fits 1) ∙ q);
+        visited = record { few = w.few; granules-is = w.granules-is; map = w.map; meets = refl };
       }

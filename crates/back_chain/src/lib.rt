@@ -29,115 +29,85 @@ fn link_holds(image: &[u8], g: Geometry, s: usize, runs: usize) -> bool
     runs == 4
 }
 
-// What a killed entry by itself gave: whether it holds, and how many granules it has.
-#[derive(Clone, Copy)]
-pub struct Visited {
-    pub ok: bool,
-    pub granules: usize,
-}
-
-// One entry of a killed file. In `map` a granule's bit is clear, and `met` has 1 for a slot, where no entry before had it.
-fn visit(image: &[u8], g: Geometry, s: usize, map: &mut [u8; 192], met: &mut [u8; 256]) -> Visited
+// One entry of a killed file: how many granules it has, if it holds. In `map` a granule's bit is clear, and `met` has 1 for a slot, where no entry
+// before had it.
+fn visit(
+    image: &[u8],
+    g: Geometry,
+    s: usize,
+    map: &mut [u8; 192],
+    met: &mut [u8; 256],
+) -> Option<usize>
     requires { Room g image.now × Slot g image.now s }
     ensures { Visits g image.now s (standing g image.now map.old) (standing g image.now map.new)
         met.old met.new result }
 {
     if met[s] < 1 {
-        return Visited {
-            ok: false,
-            granules: 0,
-        };
+        return None;
     }
     met[s] = 0;
     let at = check_walk::entry_at(image, g, s);
-    let p = check_walk::take_runs(image, g, s, at, map);
-    if !p.ok {
-        return Visited {
-            ok: false,
-            granules: 0,
-        };
+    let p = check_walk::take_runs(image, g, s, at, map)?;
+    if !link_holds(image, g, s, p.runs) {
+        return None;
     }
-    Visited {
-        ok: link_holds(image, g, s, p.runs),
-        granules: p.granules,
-    }
+    Some(p.granules)
 }
 
-// What the chain of a killed file gave: whether every entry of it holds, none and no granule twice; and how many there are.
+// The chain of a killed file, every entry of which holds, none and no granule twice: how many there are.
 #[derive(Clone, Copy)]
 pub struct Walked {
-    pub ok: bool,
     pub slots: usize,
     pub granules: usize,
 }
 
 // The chain from slot s on, at most `most` entries. Their slots go to `entries`.
-fn line(image: &[u8], g: Geometry, s: usize, most: usize, entries: &mut [usize; 256]) -> Walked
+fn line(
+    image: &[u8],
+    g: Geometry,
+    s: usize,
+    most: usize,
+    entries: &mut [usize; 256],
+) -> Option<Walked>
     requires { Room g image.now × Slot g image.now s × (most ≤ 256) × (length entries.old ≡ 256) }
     ensures { Lined g image.now most s entries.new result }
 {
     let mut map = [0u8; 192];
     let mut met = [1u8; 256];
     let mut at = s;
-    let mut n = 0;
     let mut granules = 0;
-    while n < most {
+    for n in 0..most {
         entries[n] = at;
-        let v = visit(image, g, at, &mut map, &mut met);
-        if !v.ok {
-            return Walked {
-                ok: false,
-                slots: 0,
-                granules: 0,
-            };
-        }
-        granules += v.granules;
-        n += 1;
+        granules += visit(image, g, at, &mut map, &mut met)?;
         if layout::field(image, g, at, layout::MARKER) == layout::ENDS {
-            return Walked {
-                ok: true,
-                slots: n,
+            return Some(Walked {
+                slots: n + 1,
                 granules,
-            };
+            });
         }
         at = layout::field(image, g, at, layout::LINK);
     }
-    Walked {
-        ok: true,
-        slots: n,
+    Some(Walked {
+        slots: most,
         granules,
-    }
+    })
 }
 
-// Where nothing is whole.
-fn nothing() -> Walked
-    ensures { result ≡ record { ok = false; slots = 0; granules = 0 } }
-{
-    Walked {
-        ok: false,
-        slots: 0,
-        granules: 0,
-    }
-}
-
-// Whether the killed file at slot s is whole; if so, `entries` holds its slots.
-pub fn whole(image: &[u8], g: Geometry, s: usize, entries: &mut [usize; 256]) -> Walked
+// The killed file at slot s, if it is whole: `entries` holds its slots.
+pub fn whole(image: &[u8], g: Geometry, s: usize, entries: &mut [usize; 256]) -> Option<Walked>
     requires { Room g image.now × Slot g image.now s × (length entries.old ≡ 256) }
     ensures { Wholly g image.now s entries.new result }
 {
     if layout::flag(image, g, s, layout::EXTENSION) {
-        return nothing();
+        return None;
     }
     if !entry::name_holds(image, g, s) {
-        return nothing();
+        return None;
     }
     let most = 8 * (layout::directory_sectors(image, g) - 2);
-    let l = line(image, g, s, most, entries);
-    if !l.ok {
-        return nothing();
-    }
+    let l = line(image, g, s, most, entries)?;
     if !entry::size_holds(image, g, s, l.granules) {
-        return nothing();
+        return None;
     }
-    l
+    Some(l)
 }

@@ -53,10 +53,10 @@ fn plan(
     if layout::flag(image, g, s, layout::SYSTEM) {
         return refused(6);
     }
-    let l = back_chain::whole(image, g, s, entries);
-    if !l.ok {
-        return refused(18);
-    }
+    let l = match back_chain::whole(image, g, s, entries) {
+        Some(l) => l,
+        None => return refused(18),
+    };
     let name = entry::name_of(image, g, s);
     let f = look_up::find(image, g, &name);
     if f.is {

@@ -1,4 +1,5 @@
 -- The walk, step by step: a run, an entry's pairs, the chain.
+use Rattle.std.specs.Prelude.{Some, None}
 use mathlib.Core.Path.{◌≡◌, refl, sym, ap, ◌∙◌}
 use mathlib.Core.List.{List, [], ◌∷◌, ◌++◌}
 use mathlib.Core.Bool.{Bool, true, false, not, cond, ◌&&◌, ◌||◌, and-true}
@@ -53,38 +54,32 @@ on-map g d a r h = let q : g.blocks * g.units ≤ most_blocks * g.units = mul-le
     omega arith
 
 module _ (g : Geometry) (d : List ℕ) (s k least : ℕ) where
-  taken_not : {m m' : List ℕ} → all (run_holds g d s k ∷ allows m least 0 (run_granules g d s k) ∷ []) ≡ false → TakesRun g d s k least m m' 0
-  taken_not h = record { small = omega arith; no' = λ e. h; yes' = λ n. absurd (n refl) }
+  taken_not : {m m' : List ℕ} → all (run_holds g d s k ∷ allows m least 0 (run_granules g d s k) ∷ []) ≡ false → TakesRun g d s k least m m' None
+  taken_not h = record { answer = sym h; taken = tt }
 
-  pub takes-unit : {m m' : List ℕ} {x : ℕ} → x ≡ pair_byte g d s k → g.units ≤ x / 32 → TakesRun g d s k least m m' 0
+  pub takes-unit : {m m' : List ℕ} {x : ℕ} → x ≡ pair_byte g d s k → g.units ≤ x / 32 → TakesRun g d s k least m m' None
   takes-unit e h = taken_not (all-no (all-no (le-ltb _ _ (rw e at h)) _) _)
 
   pub takes-disk : {m m' : List ℕ} {x y w : ℕ} → x ≡ pair_byte g d s k → y ≡ block g d s k → w ≡ granules g → w < y * g.units + x / 32 + (1 + x % 32)
-      → TakesRun g d s k least m m' 0
+      → TakesRun g d s k least m m' None
   takes-disk e f q h = taken_not (all-no (all-out _ 1 (lt-leb _ _ (rw (e, f, q) at h))) _)
 
   pub takes-map : {m m' : List ℕ} {x y : ℕ} {r : Bool} → x ≡ pair_byte g d s k → y ≡ block g d s k
-      → MarksPlaces m least 0 (count (y * g.units + x / 32) (1 + x % 32)) m' r → not r ≡ true → TakesRun g d s k least m m' 0
+      → MarksPlaces m least 0 (count (y * g.units + x / 32) (1 + x % 32)) m' r → not r ≡ true → TakesRun g d s k least m m' None
   takes-map {m} {m'} {x} {y} {r} e f w h =
       let w' : MarksPlaces m least 0 (run_granules g d s k) m' r = rw (e, f) at w in
       taken_not (all-out _ 1 (is-no w'.answer h))
 
   pub takes_run : {m m' : List ℕ} {x y w : ℕ} {r : Bool} → x ≡ pair_byte g d s k → y ≡ block g d s k → w ≡ granules g → x / 32 < g.units
       → y * g.units + x / 32 + (1 + x % 32) ≤ w → MarksPlaces m least 0 (count (y * g.units + x / 32) (1 + x % 32)) m' r → not r ≡ false
-      → TakesRun g d s k least m m' (1 + x % 32)
+      → TakesRun g d s k least m m' (Some (1 + x % 32))
   takes_run {m} {m'} {x} {y} {w} {r} e f q u l k' h =
       let w' : MarksPlaces m least 0 (run_granules g d s k) m' r = rw (e, f) at k' in
       record {
-        small = omega arith;
-        no' = λ z. absurd (let b : ⊥ = omega arith in b);
-        yes' =
-            λ z.
-            record {
-              length-is = ap (λ (v : ℕ). 1 + v % 32) e;
-              holds = all_yes (lt-ltb _ _ (rw e at u)) _ ∙ all_yes (le-leb _ _ (rw (e, f, q) at l)) _ ∙ all_none;
-              allowed = is-yes w'.answer h;
-              map = w'.map (not-false r h);
-            };
+        answer =
+            sym (all_yes (all_yes (lt-ltb _ _ (rw e at u)) _ ∙ all_yes (le-leb _ _ (rw (e, f, q) at l)) _ ∙ all_none) _ ∙ all_yes (is-yes w'.answer h) _
+            ∙ all_none);
+        taken = record { small = omega arith; length-is = ap (λ (v : ℕ). 1 + v % 32) e; map = w'.map (not-false r h) };
       }
 
 all_rest : (a : Bool) {b c : Bool} → b ≡ true → c ≡ true → (a && true) ≡ all (a ∷ b ∷ c ∷ [])
@@ -133,20 +128,21 @@ module _ (g : Geometry) (d : List ℕ) (s : ℕ) where
       ∙ ap (λ (b : Bool). cond b k (runs_from g d s (4 - (k + 1)) (k + 1))) u
 
   pub entering-step : {least k n len x : ℕ} {m₀ m m' : List ℕ} → Entering least m₀ m k n → k < 4 → x ≡ block g d s k → (x ≡ 0xff → ⊥)
-      → TakesRun g d s k least m m' len → (len ≡ 0 → ⊥) → Entering least m₀ m' (k + 1) (n + len)
-  entering-step {least} {k} {n} {len} {x} {m₀} {m} {m'} i h e u w z =
-      let t = w.yes' z in
+      → TakesRun g d s k least m m' (Some len) → Entering least m₀ m' (k + 1) (n + len)
+  entering-step {least} {k} {n} {len} {x} {m₀} {m} {m'} i h e u w =
+      let t = w.taken in
+      let on : all (run_holds g d s k ∷ allows m least 0 (run_granules g d s k) ∷ []) ≡ true = sym w.answer in
       let a : allows m₀ least 0 (first_runs k ++ run_granules g d s k) ≡ true
-      = allows-append m₀ least 0 (first_runs k) (run_granules g d s k) ∙ rw (i.allowed, ← i.map) t.allowed in
+      = allows-append m₀ least 0 (first_runs k) (run_granules g d s k) ∙ rw (i.allowed, ← i.map) (all-at _ on 1) in
       let l : length (first_runs k ++ run_granules g d s k) ≡ length (first_runs k) + run_length g d s k
       = length-append (first_runs k) (run_granules g d s k)
       ∙ ap (λ (j : ℕ). length (first_runs k) + j) (length-count (run_start g d s k) (run_length g d s k)) in
-      let q = w.small in
+      let q = t.small in
       let v = i.few in
       record {
         four = omega arith;
         none = more i h (off e u);
-        holds = every-snoc (run_holds g d s) k i.holds t.holds;
+        holds = every-snoc (run_holds g d s) k i.holds (all-at _ on 0);
         allowed = ap (allows m₀ least 0) (each_snoc (run_granules g d s) k) ∙ a;
         map = t.map ∙ ap (λ (l : List ℕ). marked l 0 (run_granules g d s k)) i.map ∙ sym (marked_append m₀ 0 (first_runs k) (run_granules g d s k))
             ∙ ap (marked m₀ 0) (sym (each_snoc (run_granules g d s) k));
@@ -169,15 +165,8 @@ module _ (g : Geometry) (d : List ℕ) (s : ℕ) where
   run-holds least k m₀ h e = every-count (run_holds g d s) 0 (runs g d s) k (all-at _ e 1) (omega arith) (omega arith)
 
   pub entering-bad : {least k n x : ℕ} {m₀ m m' m'' : List ℕ} → Entering least m₀ m k n → k < 4 → x ≡ block g d s k → (x ≡ 0xff → ⊥)
-      → TakesRun g d s k least m m' 0 → Entered g d s least m₀ m'' (record { ok = false; runs = 0; granules = 0 })
-  entering-bad {least} {k} {n} {x} {m₀} {m} i h e u w =
-      record {
-        few = omega arith;
-        answer = sym (by (entry_fits g d s least m₀) refl);
-        runs-is = λ q. not-both q refl;
-        granules-is = λ q. not-both q refl;
-        map = λ q. not-both q refl;
-      }
+      → TakesRun g d s k least m m' None → Entered g d s least m₀ m'' None
+  entering-bad {least} {k} {n} {x} {m₀} {m} i h e u w = record { answer = sym (by (entry_fits g d s least m₀) refl); taken = tt }
     where
       above : k + 1 ≤ runs g d s
       above = rw (more i h (off e u)) (from-above (4 - (k + 1)) (k + 1))
@@ -190,7 +179,7 @@ module _ (g : Geometry) (d : List ℕ) (s : ℕ) where
           = and_r (allows m₀ least 0 (first_runs k)) (allows (marked m₀ 0 (first_runs k)) least 0 (run_granules g d s k))
           (sym (allows-append m₀ least 0 (first_runs k) (run_granules g d s k)) ∙ a) in
           let c : allows m least 0 (run_granules g d s k) ≡ true = ap (λ (l : List ℕ). allows l least 0 (run_granules g d s k)) i.map ∙ b in
-          not-both (all_yes (run-holds least k m₀ (omega (arith, above)) q) _ ∙ all_yes c _ ∙ all_none) (w.no' refl)
+          not-both (all_yes (run-holds least k m₀ (omega (arith, above)) q) _ ∙ all_yes c _ ∙ all_none) (sym w.answer)
       by false q = q
 
   -- the pairs past the last run
@@ -205,60 +194,54 @@ module _ (g : Geometry) (d : List ℕ) (s : ℕ) where
       (λ j a b. ap (λ (t : Bool). t || unused g d s j) (le-ltb j (runs g d s) (omega arith)))
 
   -- all runs are taken
-  whole : {least k n : ℕ} {m₀ m : List ℕ} {r : Bool} → Entering least m₀ m k n → runs g d s ≡ k → r ≡ pairs_hold g d s → Entered g d s least m₀ m
-      (record { ok = r; runs = k; granules = n })
+  whole : {least k n : ℕ} {m₀ m : List ℕ} → Entering least m₀ m k n → runs g d s ≡ k → pairs_hold g d s ≡ true → Entered g d s least m₀ m
+      (Some (record { runs = k; granules = n }))
   unfolding runs_hold entry_granules
-  whole {least} {k} {n} {m₀} {m} {r} i e q =
+  whole {least} {k} {n} {m₀} {m} i e q =
       let f = i.few in
       let b = i.four in
       let hold : runs_hold g d s ≡ true = ap (λ (j : ℕ). every (run_holds g d s) (count 0 j)) e ∙ i.holds in
       let own : first_runs k ≡ entry_granules g d s = ap (λ (j : ℕ). each (run_granules g d s) (count 0 j)) (sym e) in
       let allow : allows m₀ least 0 (entry_granules g d s) ≡ true = ap (allows m₀ least 0) (sym own) ∙ i.allowed in
       record {
-        few = omega arith;
-        answer = q ∙ sym (and-true (pairs_hold g d s)) ∙ all_rest (pairs_hold g d s) hold allow;
-        runs-is = λ t. sym e;
-        granules-is = λ t. i.long ∙ ap {B = ℕ} length own;
-        map = λ t. i.map ∙ ap (marked m₀ 0) own;
+        answer = sym (all_yes q _ ∙ all_yes hold _ ∙ all_yes allow _ ∙ all_none);
+        taken = record { few = omega arith; runs-is = sym e; granules-is = i.long ∙ ap {B = ℕ} length own; map = i.map ∙ ap (marked m₀ 0) own };
       }
 
-  pub entering-stop : {least k n x : ℕ} {m₀ m : List ℕ} {r : Bool} → Entering least m₀ m k n → k < 4 → x ≡ block g d s k → x ≡ 0xff
-      → r ≡ every (unused g d s) (count k (4 - k)) → Entered g d s least m₀ m (record { ok = r; runs = k; granules = n })
-  entering-stop i h e u q = let z = stops i h (on e u) in whole i z (q ∙ sym (pairs-past z i.four))
+  -- pair k is no run, but a later one is
+  pub entering-astray : {least k n x : ℕ} {m₀ m m'' : List ℕ} → Entering least m₀ m k n → k < 4 → x ≡ block g d s k → x ≡ 0xff
+      → every (unused g d s) (count k (4 - k)) ≡ false → Entered g d s least m₀ m'' None
+  entering-astray i h e u q = record { answer = sym (all-no (pairs-past (stops i h (on e u)) i.four ∙ q) _); taken = tt }
+
+  -- pair k is no run, and no later one is
+  pub entering-stop : {least k n x : ℕ} {m₀ m : List ℕ} → Entering least m₀ m k n → k < 4 → x ≡ block g d s k → x ≡ 0xff
+      → every (unused g d s) (count k (4 - k)) ≡ true → Entered g d s least m₀ m (Some (record { runs = k; granules = n }))
+  entering-stop i h e u q = let z = stops i h (on e u) in whole i z (pairs-past z i.four ∙ q)
 
   pub entering-end : {least k n : ℕ} {m₀ m : List ℕ} → Entering least m₀ m k n → 4 ≤ k → Entered g d s least m₀ m
-      (record { ok = true; runs = 4; granules = n })
+      (Some (record { runs = 4; granules = n }))
   entering-end {least} {k} {n} {m₀} {m} i h =
       let e : k ≡ 4 = let f = i.four in omega arith in
       let j = rw e at i in
       let z : runs g d s ≡ 4 = j.none ∙ runs_none g d s 4 in
-      whole {k = 4} j z (sym (pairs-past z (omega arith)))
+      whole {k = 4} j z (pairs-past z (omega arith))
 
   -- what was taken, told as one number
-  pub told : {least k n : ℕ} {m₀ m : List ℕ} → k ≤ 4 → Entered g d s least m₀ m (record { ok = true; runs = k; granules = n }) → Entered g d s least m₀ m
+  pub told : {least k n : ℕ} {m₀ m : List ℕ} → k ≤ 4 → Entered g d s least m₀ m (Some (record { runs = k; granules = n })) → Entered g d s least m₀ m
       (pairs_of (16 * n + (8 + k)))
   told {k = k} {n = n} h w =
       let a : (16 * n + (8 + k)) % 8 ≡ k = omega arith in
       let b : (16 * n + (8 + k)) / 16 ≡ n = omega arith in
-      let f : n ≤ 128 = w.few in
-      record {
-        few = omega arith;
-        answer = ap not (ne_eqb (16 * n + (8 + k)) 0 (λ q. omega arith)) ∙ w.answer;
-        runs-is = λ q. a ∙ w.runs-is refl;
-        granules-is = λ q. b ∙ w.granules-is refl;
-        map = λ q. w.map refl;
-      }
+      let z : eqb (16 * n + (8 + k)) 0 ≡ false = ne_eqb (16 * n + (8 + k)) 0 (λ q. omega arith) in
+      rw (z, a, b) w
 
-  -- the pairs are not as they must be
-  pub not_so : {least : ℕ} {m₀ m m'' : List ℕ} {p : Pairs} → Entered g d s least m₀ m p → p.ok ≡ false → Entered g d s least m₀ m'' (pairs_of 0)
-  not_so w e =
-      record {
-        few = omega arith;
-        answer = sym e ∙ w.answer;
-        runs-is = λ q. not-both q refl;
-        granules-is = λ q. not-both q refl;
-        map = λ q. not-both q refl;
-      }
+  -- and what such a number tells
+  pub was_taken : {least r : ℕ} {m₀ m : List ℕ} → Entered g d s least m₀ m (pairs_of r) → (r ≡ 0 → ⊥) → Entered g d s least m₀ m
+      (Some (record { runs = r % 8; granules = r / 16 }))
+  was_taken {r = r} w n = rw (ne_eqb r 0 n) at w
+
+  pub none_taken : {least r : ℕ} {m₀ m : List ℕ} → Entered g d s least m₀ m (pairs_of r) → r ≡ 0 → Entered g d s least m₀ m None
+  none_taken w e = rw e at w
 
 -- The chain ---------------------------------------------------------------------------------------------------------------
 
@@ -331,10 +314,9 @@ module _ (g : Geometry) (d : List ℕ) where
   split s n = ap (each (entry_granules g d)) (chain-some s n)
 
   -- the entry does not hold
-  pub walked-entry-no : {least sectors owned : ℕ} (h s : ℕ) {left : ℕ} {m m₁ m' met met' : List ℕ} {p : Pairs} → (left ≡ 0 → ⊥) → Entered g d s least m m₁ p →
-      not p.ok ≡ true
+  pub walked-entry-no : {least sectors owned : ℕ} (h s : ℕ) {left : ℕ} {m m₁ m' met met' : List ℕ} → (left ≡ 0 → ⊥) → Entered g d s least m m₁ None
       → Walked g d least sectors owned (chain_holds g d h left s) (chain_from g d left s) m m' met met' false
-  walked-entry-no {least} {sectors} {owned} h s {left} {m} {m₁} {m'} {met} n w t = walked-no (by _ refl)
+  walked-entry-no {least} {sectors} {owned} h s {left} {m} {m₁} {m'} {met} n w = walked-no (by _ refl)
     where
       rest : List ℕ
       rest = granules_of g d (onward g d s (chain_from g d (left - 1) (link g d s)))
@@ -349,16 +331,16 @@ module _ (g : Geometry) (d : List ℕ) where
           let c = sym (holds-some h s n) ∙ all-at _ q 0 in
           let a : allows m least 0 (entry_granules g d s) ≡ true
           = and_l _ _ (sym (allows-append m least 0 (entry_granules g d s) rest) ∙ sym (ap (allows m least 0) (split s n)) ∙ all-at _ q 1) in
-          not-both (all_yes (all-at _ c 0) _ ∙ all_yes (all-at _ c 1) _ ∙ all_yes a _ ∙ all_none) (is-no w.answer t)
+          not-both (all_yes (all-at _ c 0) _ ∙ all_yes (all-at _ c 1) _ ∙ all_yes a _ ∙ all_none) (sym w.answer)
 
   -- the entry holds, and its marker was walked
   pub walked-entry : {least sectors owned : ℕ} (h s : ℕ) {left : ℕ} {m m₁ m₂ met met₂ : List ℕ} {p : Pairs} {r : Bool} → (left ≡ 0 → ⊥) → 1 ≤ get_or met s 0 →
-      Entered g d s least m m₁ p → not p.ok ≡ false
+      Entered g d s least m m₁ (Some p)
       → Walked g d least sectors (owned + p.granules) (marker_holds g d h s (chain_holds g d h (left - 1) (link g d s)))
       (onward g d s (chain_from g d (left - 1) (link g d s))) m₁ m₂ (set met s 0) met₂ r
       → Walked g d least sectors owned (chain_holds g d h left s) (chain_from g d left s) m m₂ met met₂ r
   unfolding allows marked
-  walked-entry {least} {sectors} {owned} h s {left} {m} {m₁} {m₂} {met} {met₂} {p} {r} n l w t k =
+  walked-entry {least} {sectors} {owned} h s {left} {m} {m₁} {m₂} {met} {met₂} {p} {r} n l w k =
       record {
         answer = k.answer ∙ sym (all-four c a b o);
         map = λ q. k.map q ∙ ap (λ (v : List ℕ). marked v 0 rest) here ∙ sym (marked_append m 0 (entry_granules g d s) rest) ∙ ap (marked m 0)
@@ -372,14 +354,11 @@ module _ (g : Geometry) (d : List ℕ) where
       rest : List ℕ
       rest = granules_of g d cs
 
-      ok : p.ok ≡ true
-      ok = not-false p.ok t
-
       fits : entry_fits g d s least m ≡ true
-      fits = sym w.answer ∙ ok
+      fits = sym w.answer
 
       here : m₁ ≡ marked m 0 (entry_granules g d s)
-      here = w.map ok
+      here = w.taken.map
 
       c : chain_holds g d h left s ≡ marker_holds g d h s (chain_holds g d h (left - 1) (link g d s))
       c = holds-some h s n ∙ all_yes (all-at _ fits 0) _ ∙ all_yes (all-at _ fits 1) _ ∙ all_one _
@@ -395,7 +374,7 @@ module _ (g : Geometry) (d : List ℕ) where
       o : leb sectors (granule_sectors g * (owned + length (granules_of g d (chain_from g d left s)))) ≡ leb sectors
           (granule_sectors g * (owned + p.granules + length rest))
       o = let e : length (granules_of g d (chain_from g d left s)) ≡ p.granules + length rest
-          = ap {B = ℕ} length (split s n) ∙ length-append (entry_granules g d s) rest ∙ ap (λ (j : ℕ). j + length rest) (sym (w.granules-is ok)) in
+          = ap {B = ℕ} length (split s n) ∙ length-append (entry_granules g d s) rest ∙ ap (λ (j : ℕ). j + length rest) (sym w.taken.granules-is) in
           let f : owned + length (granules_of g d (chain_from g d left s)) ≡ owned + p.granules + length rest = omega arith in
           ap (λ (j : ℕ). leb sectors (granule_sectors g * j)) f
 

@@ -1,5 +1,5 @@
 -- What the walk along a chain tests, and what it leaves in the maps.
-use Rattle.std.specs.Prelude.{◌≡◌, Bool, true, false, not, cond, List, [], ◌∷◌, ℕ, zero, suc, ◌+◌, ◌*◌, ◌/◌, ◌%◌, ◌≤◌, eqb, ltb, leb, length}
+use Rattle.std.specs.Prelude.{◌≡◌, Bool, true, false, not, cond, List, [], ◌∷◌, ℕ, zero, suc, ◌+◌, ◌*◌, ◌/◌, ◌%◌, ◌≤◌, eqb, ltb, leb, length, Option, Some, None, is_some, IfSome}
 use Rattle.meaning.specs.Lists.{each, all, any}
 use Rattle.meaning.specs.Layout.{granules, field, hit, is_slot, entry_at, granule_sectors}
 use Rattle.meaning.specs.Entries.{runs, block, first_unit, run_start, run_length, run_granules, entry_granules, marker, link}
@@ -30,31 +30,35 @@ abbrev pub run_holds : Geometry → List ℕ → ℕ → ℕ → Bool
 run_holds g d s k = all (ltb (first_unit g d s k) g.units ∷ leb (run_start g d s k + run_length g d s k) (granules g) ∷ [])
 
 -- a run that was taken
-pub record RunTaken (g : Geometry) (d : List ℕ) (s k least : ℕ) (m m' : List ℕ) (r : ℕ) : Type 0 where
+pub record RunTaken (g : Geometry) (d : List ℕ) (s k : ℕ) (m m' : List ℕ) (r : ℕ) : Type 0 where
+  pub small : r ≤ 32
   pub length-is : r ≡ run_length g d s k
-  pub holds : run_holds g d s k ≡ true
-  pub allowed : allows m least 0 (run_granules g d s k) ≡ true
   pub map : m' ≡ marked m 0 (run_granules g d s k)
 
-pub record TakesRun (g : Geometry) (d : List ℕ) (s k least : ℕ) (m m' : List ℕ) (r : ℕ) : Type 0 where
-  pub small : r ≤ 32
-  pub no' : r ≡ 0 → all (run_holds g d s k ∷ allows m least 0 (run_granules g d s k) ∷ []) ≡ false
-  pub yes' : (r ≡ 0 → ⊥) → RunTaken g d s k least m m' r
+-- run k, taken if it lies on the disk and its granules are open
+pub record TakesRun (g : Geometry) (d : List ℕ) (s k least : ℕ) (m m' : List ℕ) (r : Option ℕ) : Type 0 where
+  pub answer : is_some r ≡ all (run_holds g d s k ∷ allows m least 0 (run_granules g d s k) ∷ [])
+  pub taken : IfSome r (RunTaken g d s k m m')
 
 -- what an entry by itself must hold, with the map m
 abbrev pub entry_fits : Geometry → List ℕ → ℕ → ℕ → List ℕ → Bool
 entry_fits g d s least m = all (pairs_hold g d s ∷ runs_hold g d s ∷ allows m least 0 (entry_granules g d s) ∷ [])
 
 -- what an entry's pairs gave, told as one number: 16 times the granules, and 8 and the runs beside them; 0 where they are not as they must be
-abbrev pub pairs_of : ℕ → Pairs
-pairs_of r = record { ok = not (eqb r 0); runs = r % 8; granules = r / 16 }
+abbrev pub pairs_of : ℕ → Option Pairs
+pairs_of r = cond (eqb r 0) None (Some (record { runs = r % 8; granules = r / 16 }))
 
-pub record Entered (g : Geometry) (d : List ℕ) (s least : ℕ) (m m' : List ℕ) (r : Pairs) : Type 0 where
-  pub few : r.granules ≤ 128
-  pub answer : r.ok ≡ entry_fits g d s least m
-  pub runs-is : r.ok ≡ true → r.runs ≡ runs g d s
-  pub granules-is : r.ok ≡ true → r.granules ≡ length (entry_granules g d s)
-  pub map : r.ok ≡ true → m' ≡ marked m 0 (entry_granules g d s)
+-- an entry that was taken
+pub record PairsTaken (g : Geometry) (d : List ℕ) (s : ℕ) (m m' : List ℕ) (p : Pairs) : Type 0 where
+  pub few : p.granules ≤ 128
+  pub runs-is : p.runs ≡ runs g d s
+  pub granules-is : p.granules ≡ length (entry_granules g d s)
+  pub map : m' ≡ marked m 0 (entry_granules g d s)
+
+-- an entry, taken if it is as it must be
+pub record Entered (g : Geometry) (d : List ℕ) (s least : ℕ) (m m' : List ℕ) (r : Option Pairs) : Type 0 where
+  pub answer : is_some r ≡ entry_fits g d s least m
+  pub taken : IfSome r (PairsTaken g d s m m')
 
 -- An entry leads on: its marker is FEH, it has four runs, and the link is an extension, in use, that points back, has a run, and has the
 -- file's HIT byte h.

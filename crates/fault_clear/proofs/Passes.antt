@@ -1,4 +1,5 @@
 -- The passes over slots that find them clear: where they start, one slot further, and what they say at the end.
+use Rattle.std.specs.Prelude.{Option, Some, None, is_some}
 use mathlib.Core.Path.{◌≡◌, refl, sym, ap, ◌∙◌}
 use mathlib.Core.Logic.{◌⊎◌, inl, inr}
 use mathlib.Core.List.{List, [], ◌∷◌}
@@ -82,9 +83,9 @@ module _ (g : Geometry) (d : List ℕ) where
   no_slot n e l = not-both (slot-yes g d n l.low l.held) e
 
   -- slot n is in use, and its entry was taken off the map
-  module _ (n : ℕ) {m m' : List ℕ} {p : Pairs} (w : Entered g d n 1 m m' p) (ok : p.ok ≡ true) (c : ClearThrough g d n m) where
+  module _ (n : ℕ) {m m' : List ℕ} {p : Pairs} (w : Entered g d n 1 m m' (Some p)) (c : ClearThrough g d n m) where
     fits : entry_fits g d n 1 m ≡ true
-    fits = sym w.answer ∙ ok
+    fits = sym w.answer
 
     opens : Open m 1 (entry_granules g d n)
     opens = allows-says 1 0 (entry_granules g d n) m (omega arith) (all-at _ fits 2)
@@ -121,14 +122,14 @@ module _ (g : Geometry) (d : List ℕ) where
         let e : In q (entry_granules g d n) → ⊥ = λ i.
         let z : ◌≡◌ {A = ℕ} (get_or (marked m 0 (entry_granules g d n)) q 0) 0
         = marked-in 0 q (entry_granules g d n) m i (in-range m q (let k = opens.high q i in omega arith)) in
-        let y : get_or m' q 0 ≡ get_or (marked m 0 (entry_granules g d n)) q 0 = ap (λ (l : List ℕ). get_or l q 0) (w.map ok) in
+        let y : get_or m' q 0 ≡ get_or (marked m 0 (entry_granules g d n)) q 0 = ap (λ (l : List ℕ). get_or l q 0) w.taken.map in
         let x : ⊥ = omega arith in x in
-        let y : get_or m' q 0 ≡ get_or m q 0 = ap (λ (l : List ℕ). get_or l q 0) (w.map ok) ∙ marked-out 0 q (entry_granules g d n) m e in
+        let y : get_or m' q 0 ≡ get_or m q 0 = ap (λ (l : List ℕ). get_or l q 0) w.taken.map ∙ marked-out 0 q (entry_granules g d n) m e in
         (e, omega arith)
 
-    pub clearing-step : ClearThrough g d (n + 1) m'
+    clearing-taken : ClearThrough g d (n + 1) m'
     unfolding run_fault gat_fault
-    clearing-step =
+    clearing-taken =
         record {
           clear =
               record {
@@ -143,6 +144,10 @@ module _ (g : Geometry) (d : List ℕ) where
         by : (q t : ℕ) → q < granules g → 1 ≤ get_or m' q 0 → t < n + 1 → Slot g d t → in_use g d t ≡ true → In q (entry_granules g d t) → Dec (t ≡ n) → ⊥
         by q t l k b s u i (yes e) = (was q k).0 (rw e at i)
         by q t l k b s u i (no e) = c.free q t l (was q k).1 (omega arith) s u i
+
+  pub clearing-step : (n : ℕ) {m m' : List ℕ} {r : Option Pairs} → Entered g d n 1 m m' r → is_some r ≡ true → ClearThrough g d n m → ClearThrough g d (n + 1) m'
+  clearing-step n {r = None} w ok c = not-both ok refl
+  clearing-step n {r = Some p} w ok c = clearing-taken n w c
 
   -- Names -----------------------------------------------------------------------------------------------------------------
 

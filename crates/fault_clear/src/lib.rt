@@ -21,8 +21,7 @@ fn taken_off(image: &[u8], g: Geometry, s: usize, map: &mut [u8; 192]) -> bool
         return true;
     }
     let at = check_walk::entry_at(image, g, s);
-    let p = check_walk::take_runs(image, g, s, at, map);
-    p.ok
+    check_walk::take_runs(image, g, s, at, map).is_some()
 }
 
 // Of runs off the disk, GAT bits missing and shared granules: 26, 27 and 28.
@@ -32,14 +31,12 @@ pub fn runs_clear(image: &[u8], g: Geometry) -> usize
 {
     let mut map = [0u8; 192];
     check_map::gat_map(image, g, &mut map);
-    let mut s = 0;
-    while s < 256 {
+    for s in 0..256 {
         if !taken_off(image, g, s, &mut map) {
             return s;
         }
-        s += 1;
     }
-    s
+    256
 }
 
 // Of duplicate names, 24: all slots, or none that is known.

@@ -1,13 +1,9 @@
 use lib.ListN.{length}
 use mathlib.Core.Path.{◌≡◌}
 use Rattle.back_chain.proofs.Chain.{Lining}
-use Prim.Native.Nat.{◌-◌}
 use Rattle.check_map.specs.Owners.{standing}
 use Rattle.back_chain.proofs.line.Given as goal
 
 abbrev pub invariant-loop-n : goal.invariant-loop-n
 invariant-loop-n l = (length l.entries ≡ 256) × Lining l.g l.image l.most l.s l.entries
     (standing l.g l.image l.map) l.met l.at l.n l.granules
-
-abbrev pub decreases-loop-n : goal.decreases-loop-n
-decreases-loop-n l = l.most - l.n

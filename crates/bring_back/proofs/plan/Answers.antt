@@ -1,9 +1,8 @@
 use mathlib.Core.Path.{sym, ap, ◌∙◌}
 use native.Mathlib.Omega.{arith}
 use Rattle.entry.proofs.EntryTests.{name-long}
-use borrow.Author.Tests.{not-false}
 use Rattle.meaning.specs.Names.{hash}
-use Rattle.lists.specs.Tests.{is-false, is-true, is-no, is-yes}
+use Rattle.lists.specs.Tests.{is-false, is-true}
 use Rattle.layout.proofs.HasRoom.{slot-of}
 use Rattle.passed.proofs.Checked.{checked, checked-room}
 use Rattle.bring_back.proofs.Call.{refused-plan, at-check, at_slot, at-use, at-system, at-whole}
@@ -46,17 +45,17 @@ returns-then-flag-2 c = refused-plan _ _ _ c.refused-then-flag-2.ensures
     (at-system _ _ _ c.requires.0 c.if-checked-ne0.false (is-true c.is_slot.ensures c.if-not-is_slot.false) (sym c.flag.ensures ∙ c.if-flag.false)
     (sym c.flag-2.ensures ∙ c.if-flag-2.true)) (λ z. omega arith)
 
-pub whole-l-requires : goal.whole-l-requires
-whole-l-requires c = (
+pub whole-requires : goal.whole-requires
+whole-requires c = (
   checked-room _ _ (checked _ _ c.requires.0 c.if-checked-ne0.false),
   slot-of _ _ _ (is-true c.is_slot.ensures c.if-not-is_slot.false),
   c.requires.1,
 )
 
-pub returns-then-not-l : goal.returns-then-not-l
-returns-then-not-l c = refused-plan _ _ _ c.refused-then-not-l.ensures
+pub returns-in-None : goal.returns-in-None
+returns-in-None c = refused-plan _ _ _ c.refused-in-None.ensures
     (at-whole _ _ _ c.requires.0 c.if-checked-ne0.false (is-true c.is_slot.ensures c.if-not-is_slot.false) (sym c.flag.ensures ∙ c.if-flag.false)
-    (sym c.flag-2.ensures ∙ c.if-flag-2.false) (is-no c.whole-l.ensures.answer c.if-not-l.true)) (λ z.
+    (sym c.flag-2.ensures ∙ c.if-flag-2.false) (sym c.in-None.ensures.answer)) (λ z.
     omega arith)
 
 pub name_of-name-requires : goal.name_of-name-requires
@@ -71,28 +70,27 @@ find-f-requires c = (
 pub returns-then-f : goal.returns-then-f
 returns-then-f c = refused-plan _ _ _ c.refused-then-f.ensures
     (at_name _ _ _ c.requires.0 c.if-checked-ne0.false (is-true c.is_slot.ensures c.if-not-is_slot.false) (sym
-    c.flag.ensures ∙ c.if-flag.false) (sym c.flag-2.ensures ∙ c.if-flag-2.false) (is-yes c.whole-l.ensures.answer c.if-not-l.false)
+    c.flag.ensures ∙ c.if-flag.false) (sym c.flag-2.ensures ∙ c.if-flag-2.false) (sym c.in-Some.ensures.answer)
     (name-used c.args.g c.args.image.now c.args.s c.name_of-name.ensures c.find-f.ensures c.if-f.true)) (λ z. omega
     arith)
 
 pub any_taken-requires : goal.any_taken-requires
-any_taken-requires c = (checked-room _ _ (checked _ _ c.requires.0 c.if-checked-ne0.false), (c.whole-l.ensures.written (not-false _ c.if-not-l.false)).listed)
+any_taken-requires c = (checked-room _ _ (checked _ _ c.requires.0 c.if-checked-ne0.false), c.in-Some.ensures.written.listed)
 
 pub returns-then-any_taken : goal.returns-then-any_taken
 returns-then-any_taken c = refused-plan _ _ _ c.refused-then-any_taken.ensures
     (at-taken _ _ _ c.requires.0 c.if-checked-ne0.false (is-true c.is_slot.ensures c.if-not-is_slot.false) (sym
-    c.flag.ensures ∙ c.if-flag.false) (sym c.flag-2.ensures ∙ c.if-flag-2.false) (is-yes c.whole-l.ensures.answer c.if-not-l.false)
+    c.flag.ensures ∙ c.if-flag.false) (sym c.flag-2.ensures ∙ c.if-flag-2.false) (sym c.in-Some.ensures.answer)
     (name_free c.args.g c.args.image.now c.args.s c.name_of-name.ensures c.find-f.ensures c.if-f.false) (sym (taken_is _ _ _
-    (c.whole-l.ensures.written (not-false _ c.if-not-l.false))) ∙ sym c.any_taken.ensures ∙ c.if-any_taken.true)) (λ z. omega arith)
+    c.in-Some.ensures.written) ∙ sym c.any_taken.ensures ∙ c.if-any_taken.true)) (λ z. omega arith)
 
 pub returns : goal.returns
 returns c = record {
   number_is = at_none _ _ _ c.requires.0 c.if-checked-ne0.false (is-true c.is_slot.ensures c.if-not-is_slot.false) (sym c.flag.ensures ∙
-      c.if-flag.false) (sym c.flag-2.ensures ∙ c.if-flag-2.false) (is-yes c.whole-l.ensures.answer c.if-not-l.false)
-      (name_free c.args.g c.args.image.now c.args.s c.name_of-name.ensures c.find-f.ensures c.if-f.false) (sym (taken_is _ _ _ (c.whole-l.ensures.written
-      (not-false _ c.if-not-l.false))) ∙ sym c.any_taken.ensures ∙ c.if-any_taken.false);
+      c.if-flag.false) (sym c.flag-2.ensures ∙ c.if-flag-2.false) (sym c.in-Some.ensures.answer)
+      (name_free c.args.g c.args.image.now c.args.s c.name_of-name.ensures c.find-f.ensures c.if-f.false) (sym (taken_is _ _ _ c.in-Some.ensures.written) ∙ sym c.any_taken.ensures ∙ c.if-any_taken.false);
   room = λ z. checked-room _ _ (checked _ _ c.requires.0 c.if-checked-ne0.false);
-  written = λ z. c.whole-l.ensures.written (not-false _ c.if-not-l.false);
+  written = λ z. c.in-Some.ensures.written;
   hash-is = λ z. c.hash.ensures.is ∙ ap hash c.name_of-name.ensures;
   small = λ z. c.hash.ensures.small;
 }

@@ -1,3 +1,4 @@
+use native.Mathlib.Omega.{arith}
 use lib.ListN.{get_or}
 use Prim.Native.Nat.{ℕ, ◌+◌}
 use Rattle.meaning.specs.Layout.{field}
@@ -7,7 +8,7 @@ use Rattle.check_walk.proofs.field_at.Goals as goal
 pub returns : goal.returns
 unfolding field
 returns c = record {
-  is = c.wide.ensures.is ∙ ap (λ (x : ℕ). get_or c.args.image.now (x + c.args.k) 0)
+  is = c.from.ensures ∙ ap (λ (x : ℕ). get_or c.args.image.now (x + c.args.k) 0)
       c.requires.1.is;
-  small = c.wide.ensures.small;
+  small = rw c.from.ensures (omega (arith, c.type_inv.image (c.args.at + c.args.k)));
 }

@@ -1,7 +1,7 @@
+use Prim.Native.Nat.{◌-◌}
 use Rattle.check_walk.proofs.WalkSteps.{Entering}
 use Rattle.check_walk.specs.Walk.{geometry}
 use Rattle.check_map.specs.Owners.{standing}
-use Prim.Native.Nat.{◌-◌}
 use Rattle.check_walk.proofs.take_pairs.Given as goal
 
 abbrev pub invariant-loop-k : goal.invariant-loop-k

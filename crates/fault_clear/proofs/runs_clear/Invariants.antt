@@ -1,10 +1,6 @@
 use Rattle.fault_clear.specs.Clear.{ClearThrough}
 use Rattle.check_map.specs.Owners.{standing}
-use Prim.Native.Nat.{◌-◌, ◌≤◌}
 use Rattle.fault_clear.proofs.runs_clear.Given as goal
 
 abbrev pub invariant-loop-s : goal.invariant-loop-s
-invariant-loop-s l = ClearThrough l.g l.image l.s (standing l.g l.image l.map) × (l.s ≤ 256)
-
-abbrev pub decreases-loop-s : goal.decreases-loop-s
-decreases-loop-s l = 256 - l.s
+invariant-loop-s l = ClearThrough l.g l.image l.s (standing l.g l.image l.map)

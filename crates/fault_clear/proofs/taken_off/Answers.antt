@@ -1,3 +1,4 @@
+use mathlib.Core.Path.{sym, ◌∙◌}
 use Rattle.fault_clear.proofs.Passes.{no_slot, clearing-skip, clearing-step}
 use Rattle.layout.proofs.HasRoom.{slot-of}
 use Rattle.lists.specs.Tests.{is-false, is-true}
@@ -17,4 +18,4 @@ pub entry_at-at-requires : goal.entry_at-at-requires
 entry_at-at-requires c = let is-slot = c.is_slot in let p = c.requires in (p.0, slot-of _ _ _ (is-true is-slot.ensures c.if-not-is_slot.false))
 
 pub returns : goal.returns
-returns c = let p = c.requires in λ q. clearing-step _ _ _ c.take_runs-p.ensures q p.1
+returns c = let p = c.requires in λ q. clearing-step _ _ _ c.take_runs.ensures (sym c.is_some.ensures ∙ q) p.1
