@@ -4,7 +4,7 @@ use mathlib.Core.List.{List, [], ◌∷◌, ◌++◌}
 use mathlib.Core.Bool.{Bool, cond}
 use Prim.Native.Nat.{ℕ, zero, suc, ◌+◌, ◌-◌, ◌*◌, ◌≤◌, ◌<◌}
 use native.Mathlib.Omega.{arith}
-use native.Mathlib.Nat.{sub-zero, add-zero}
+use native.Mathlib.Nat.{sub-zero}
 use lib.ListN.{length, get_or, set, length-set}
 use lib.Seq.{get_or-set_other}
 use borrow.Author.Tests.{eq-eqb, ne_eqb}
@@ -18,7 +18,7 @@ use Rattle.meaning.specs.declared.Geometry.{Geometry}
 use Rattle.layout.specs.Room.{Room, Slot}
 use Rattle.lists.specs.Ranges.{left-more, left-none}
 use Rattle.seek.specs.Seek.{Walkable, Used, onward}
-use Rattle.seek.proofs.SeekSteps.{chain_more, chain-none, slots_length}
+use Rattle.seek.proofs.SeekSteps.{chain-none, slots_length}
 use Rattle.seek.proofs.Frame.{opened, room-kept, slot_kept, Same, same_refl, same-trans, same-free, same-room, same-entry, same-sound, same-all, same-used}
 use Rattle.seek.proofs.Frame.{same-slots-of}
 use Rattle.seek.proofs.IsWalkable.{low-entry, low-chain}
@@ -66,64 +66,72 @@ module _ (g : Geometry) where
   pub emptying-end : {d d' : List ℕ} {s n j : ℕ} → Emptying d s n d' j → n ≤ j → d' ≡ through (free_granule g) d (entry_granules g d s)
   emptying-end {d} {d'} {s} {n} {j} f h = sym (f.rest ∙ ap (λ (m : ℕ). through (free_granule g) d' (each (run_granules g d s) (count j m))) (left-none h))
 
-  -- entry by entry: `left` entries at the most are to come, from slot `at` on
-  pub record Unchaining (d : List ℕ) (most s : ℕ) (d' : List ℕ) (at left : ℕ) : Type 0 where
+  chain-cons : (d : List ℕ) {most i : ℕ} (s : ℕ) → i < most → chain_from g d (most - i) s ≡ s ∷ onward g d (most - (i + 1)) s
+  unfolding chain_from
+  chain-cons d s h = rw (left-more h)
+
+  -- entry by entry: i of `most` are done, and slot `at` comes next
+  pub record Unchaining (d : List ℕ) (most s : ℕ) (d' : List ℕ) (at i : ℕ) : Type 0 where
     pub rest : through (free_granule g) d (each (entry_granules g d) (chain_from g d most s)) ≡ through (free_granule g) d'
-        (each (entry_granules g d) (chain_from g d left at))
+        (each (entry_granules g d) (chain_from g d (most - i) at))
     pub same : Same g d d'
     pub used : Used g d at
 
-  pub unchaining-start : (d : List ℕ) (most s : ℕ) → Used g d s → Unchaining d most s d s most
-  unchaining-start d most s u = record { rest = refl; same = same_refl g d; used = u }
+  pub unchaining-start : (d : List ℕ) (most s : ℕ) → Used g d s → Unchaining d most s d s 0
+  unchaining-start d most s u = record {
+    rest = ap (λ (n : ℕ). through (free_granule g) d (each (entry_granules g d) (chain_from g d n s))) (sym (sub-zero most));
+    same = same_refl g d;
+    used = u;
+  }
 
   -- the image once the entry at `at` gave its granules back
-  unchained : {d d' d'' : List ℕ} {most s at left : ℕ} → Walkable g d → Unchaining d most s d' at left → (left ≡ 0 → ⊥) → d'' ≡ through (free_granule g) d'
+  unchained : {d d' d'' : List ℕ} {most s at i : ℕ} → Walkable g d → Unchaining d most s d' at i → i < most → d'' ≡ through (free_granule g) d'
       (entry_granules g d' at)
       → through (free_granule g) d (each (entry_granules g d) (chain_from g d most s)) ≡ through (free_granule g) d''
-      (each (entry_granules g d) (onward g d (left - 1) at))
-  unchained {d} {d'} {d''} {most} {s} {at} {left} snd f n e =
-      f.rest ∙ ap (through (free_granule g) d') (chain_more g d left at n)
-      ∙ through-append (free_granule g) d' (entry_granules g d at) (each (entry_granules g d) (onward g d (left - 1) at))
-      ∙ ap (λ (l : List ℕ). through (free_granule g) (through (free_granule g) d' l) (each (entry_granules g d) (onward g d (left - 1) at)))
+      (each (entry_granules g d) (onward g d (most - (i + 1)) at))
+  unchained {d} {d'} {d''} {most} {s} {at} {i} snd f n e =
+      f.rest ∙ ap (λ (l : List ℕ). through (free_granule g) d' (each (entry_granules g d) l)) (chain-cons d at n)
+      ∙ through-append (free_granule g) d' (entry_granules g d at) (each (entry_granules g d) (onward g d (most - (i + 1)) at))
+      ∙ ap (λ (l : List ℕ). through (free_granule g) (through (free_granule g) d' l) (each (entry_granules g d) (onward g d (most - (i + 1)) at)))
       (sym (same-entry g d d' snd.room f.same at f.used.slot))
-      ∙ ap (λ (z : List ℕ). through (free_granule g) z (each (entry_granules g d) (onward g d (left - 1) at))) (sym e)
+      ∙ ap (λ (z : List ℕ). through (free_granule g) z (each (entry_granules g d) (onward g d (most - (i + 1)) at))) (sym e)
 
-  pub unchained-same : {d d' d'' : List ℕ} {most s at left : ℕ} → Walkable g d → Unchaining d most s d' at left → d'' ≡ through (free_granule g) d'
+  pub unchained-same : {d d' d'' : List ℕ} {most s at i : ℕ} → Walkable g d → Unchaining d most s d' at i → d'' ≡ through (free_granule g) d'
       (entry_granules g d' at) → Same g d d''
-  unchained-same {d} {d'} {d''} {most} {s} {at} {left} snd f e =
+  unchained-same {d} {d'} {d''} {most} {s} {at} {i} snd f e =
       let r' = same-room g d d' snd.room f.same in
       let s' = same-sound g d d' snd f.same in
       let u' = same-used g d d' snd.room f.same f.used in
       rw e (same-trans g d d' (through (free_granule g) d' (entry_granules g d' at)) snd.room f.same
       (same-all g d' (entry_granules g d' at) r' (low-entry g d' s' at u')))
 
-  pub unchaining-stop : {d d' d'' : List ℕ} {most s at left m : ℕ} → Walkable g d → Unchaining d most s d' at left → 0 < left
+  pub unchaining-stop : {d d' d'' : List ℕ} {most s at i m : ℕ} → Walkable g d → Unchaining d most s d' at i → i < most
       → d'' ≡ through (free_granule g) d'
       (entry_granules g d' at)
       → m ≡ marker g d at → (m ≡ 0xfe → ⊥) → d'' ≡ through (free_granule g) d (each (entry_granules g d) (chain_from g d most s))
-  unchaining-stop {d} {d'} {d''} {most} {s} {at} {left} {m} snd f n e q nay =
-      sym (unchained snd f (λ z. omega arith) e
-      ∙ ap (λ (t : Bool). through (free_granule g) d'' (each (entry_granules g d) (cond t (chain_from g d (left - 1) (link g d at)) [])))
+  unchaining-stop {d} {d'} {d''} {most} {s} {at} {i} {m} snd f n e q nay =
+      sym (unchained snd f n e
+      ∙ ap (λ (t : Bool). through (free_granule g) d'' (each (entry_granules g d) (cond t (chain_from g d (most - (i + 1)) (link g d at)) [])))
       (ne_eqb (marker g d at) 0xfe (λ z. nay (q ∙ z))))
 
-  pub unchaining-step : {d d' d'' : List ℕ} {most s at left m t : ℕ} → Walkable g d → Unchaining d most s d' at left → 0 < left → d'' ≡ through (free_granule g)
+  pub unchaining-step : {d d' d'' : List ℕ} {most s at i m t : ℕ} → Walkable g d → Unchaining d most s d' at i → i < most → d'' ≡ through (free_granule g)
       d' (entry_granules g d' at)
-      → m ≡ marker g d at → m ≡ 0xfe → t ≡ link g d at → Unchaining d most s d'' t (left - 1)
-  unchaining-step {d} {d'} {d''} {most} {s} {at} {left} {m} {t} snd f n e q ys w =
+      → m ≡ marker g d at → m ≡ 0xfe → t ≡ link g d at → Unchaining d most s d'' t (i + 1)
+  unchaining-step {d} {d'} {d''} {most} {s} {at} {i} {m} {t} snd f n e q ys w =
       record {
         rest =
-            unchained snd f (λ z. omega arith) e
-            ∙ ap (λ (b : Bool). through (free_granule g) d'' (each (entry_granules g d) (cond b (chain_from g d (left - 1) (link g d at)) [])))
+            unchained snd f n e
+            ∙ ap (λ (b : Bool). through (free_granule g) d'' (each (entry_granules g d) (cond b (chain_from g d (most - (i + 1)) (link g d at)) [])))
             (eq-eqb (marker g d at) 0xfe (sym q ∙ ys))
-            ∙ ap (λ (k : ℕ). through (free_granule g) d'' (each (entry_granules g d) (chain_from g d (left - 1) k))) (sym w);
+            ∙ ap (λ (k : ℕ). through (free_granule g) d'' (each (entry_granules g d) (chain_from g d (most - (i + 1)) k))) (sym w);
         same = unchained-same snd f e;
         used = rw w (snd.next at f.used (sym q ∙ ys));
       }
 
-  pub unchaining-end : {d d' : List ℕ} {most s at left : ℕ} → Unchaining d most s d' at left → left ≤ 0 → d' ≡ through (free_granule g) d
+  pub unchaining-end : {d d' : List ℕ} {most s at i : ℕ} → Unchaining d most s d' at i → most ≤ i → d' ≡ through (free_granule g) d
       (each (entry_granules g d) (chain_from g d most s))
-  unchaining-end {d} {d'} {most} {s} {at} {left} f h =
-      sym (f.rest ∙ ap (λ (l : List ℕ). through (free_granule g) d' (each (entry_granules g d) l)) (chain-none g d left at (omega arith)))
+  unchaining-end {d} {d'} {most} {s} {at} {i} f h =
+      sym (f.rest ∙ ap (λ (l : List ℕ). through (free_granule g) d' (each (entry_granules g d) l)) (chain-none g d (most - i) at (omega arith)))
 
   -- two images whose directories are of one length and whose entries differ in byte 00 only
   pub record KeptFields (d d' : List ℕ) : Type 0 where
@@ -169,61 +177,55 @@ module _ (g : Geometry) where
   kept-kill : (d : List ℕ) (s : ℕ) → Room g d → Slot g d s → KeptFields d (kill_entry g d s)
   kept-kill d s r sl = record { long = kill-long d s; sectors = kill-sectors d s r sl; fields = λ x k xl a b. kill-field d s x k sl xl a b }
 
-  chain-cons : (d : List ℕ) (left s : ℕ) → (left ≡ 0 → ⊥) → chain_from g d left s ≡ s ∷ onward g d (left - 1) s
-  unfolding chain_from
-  chain-cons d zero s h = absurd (h refl)
-  chain-cons d (suc left) s h = let e : suc left - 1 ≡ left = omega arith in rw e
-
-  pub record Clearing (d : List ℕ) (most s : ℕ) (d' : List ℕ) (at left : ℕ) : Type 0 where
-    pub rest : through (kill_entry g) d (chain_from g d most s) ≡ through (kill_entry g) d' (chain_from g d left at)
+  pub record Clearing (d : List ℕ) (most s : ℕ) (d' : List ℕ) (at i : ℕ) : Type 0 where
+    pub rest : through (kill_entry g) d (chain_from g d most s) ≡ through (kill_entry g) d' (chain_from g d (most - i) at)
     pub kept : KeptFields d d'
     pub used : Used g d at
 
-  pub clearing-start : (d : List ℕ) (most s : ℕ) → Used g d s → Clearing d most s d s most
-  clearing-start d most s u = record { rest = refl; kept = record { long = refl; sectors = refl; fields = λ x k sl a b. refl }; used = u }
+  pub clearing-start : (d : List ℕ) (most s : ℕ) → Used g d s → Clearing d most s d s 0
+  clearing-start d most s u = record { rest = ap (λ (n : ℕ). through (kill_entry g) d (chain_from g d n s)) (sym (sub-zero most)); kept = record { long = refl; sectors = refl; fields = λ x k sl a b. refl }; used = u }
 
-  cleared : {d d' d'' : List ℕ} {most s at left : ℕ} → Clearing d most s d' at left → 0 < left → d'' ≡ kill_entry g d' at
-      → through (kill_entry g) d (chain_from g d most s) ≡ through (kill_entry g) d'' (onward g d (left - 1) at)
-  cleared {d} {d'} {d''} {most} {s} {at} {left} f n e =
-      f.rest ∙ ap (through (kill_entry g) d') (chain-cons d left at (λ z. omega arith))
-      ∙ ap (λ (z : List ℕ). through (kill_entry g) z (onward g d (left - 1) at)) (sym e)
+  cleared : {d d' d'' : List ℕ} {most s at i : ℕ} → Clearing d most s d' at i → i < most → d'' ≡ kill_entry g d' at
+      → through (kill_entry g) d (chain_from g d most s) ≡ through (kill_entry g) d'' (onward g d (most - (i + 1)) at)
+  cleared {d} {d'} {d''} {most} {s} {at} {i} f n e =
+      f.rest ∙ ap (through (kill_entry g) d') (chain-cons d at n)
+      ∙ ap (λ (z : List ℕ). through (kill_entry g) z (onward g d (most - (i + 1)) at)) (sym e)
 
-  pub clearing-stop : {d d' d'' : List ℕ} {most s at left m : ℕ} → Clearing d most s d' at left → 0 < left → d'' ≡ kill_entry g d' at → m ≡ field g d' at 0x1e →
+  pub clearing-stop : {d d' d'' : List ℕ} {most s at i m : ℕ} → Clearing d most s d' at i → i < most → d'' ≡ kill_entry g d' at → m ≡ field g d' at 0x1e →
       (m ≡ 0xfe → ⊥)
       → d'' ≡ through (kill_entry g) d (chain_from g d most s)
-  clearing-stop {d} {d'} {d''} {most} {s} {at} {left} {m} f n e q nay =
+  clearing-stop {d} {d'} {d''} {most} {s} {at} {i} {m} f n e q nay =
       let w : m ≡ marker g d at = q ∙ f.kept.fields at 0x1e f.used.slot (omega arith) (omega arith) in
-      sym (cleared f n e ∙ ap (λ (t : Bool). through (kill_entry g) d'' (cond t (chain_from g d (left - 1) (link g d at)) []))
+      sym (cleared f n e ∙ ap (λ (t : Bool). through (kill_entry g) d'' (cond t (chain_from g d (most - (i + 1)) (link g d at)) []))
       (ne_eqb (marker g d at) 0xfe (λ z. nay (w ∙ z))))
 
-  pub clearing-step : {d d' d'' : List ℕ} {most s at left m t : ℕ} → Walkable g d → Clearing d most s d' at left → 0 < left → d'' ≡ kill_entry g d' at
-      → m ≡ field g d' at 0x1e → t ≡ field g d' at 0x1f → m ≡ 0xfe → Clearing d most s d'' t (left - 1)
-  clearing-step {d} {d'} {d''} {most} {s} {at} {left} {m} {t} snd f n e q v ys =
+  pub clearing-step : {d d' d'' : List ℕ} {most s at i m t : ℕ} → Walkable g d → Clearing d most s d' at i → i < most → d'' ≡ kill_entry g d' at
+      → m ≡ field g d' at 0x1e → t ≡ field g d' at 0x1f → m ≡ 0xfe → Clearing d most s d'' t (i + 1)
+  clearing-step {d} {d'} {d''} {most} {s} {at} {i} {m} {t} snd f n e q v ys =
       let w : m ≡ marker g d at = q ∙ f.kept.fields at 0x1e f.used.slot (omega arith) (omega arith) in
       let x : t ≡ link g d at = v ∙ f.kept.fields at 0x1f f.used.slot (omega arith) (omega arith) in
       record {
         rest =
-            cleared f n e ∙ ap (λ (b : Bool). through (kill_entry g) d'' (cond b (chain_from g d (left - 1) (link g d at)) []))
+            cleared f n e ∙ ap (λ (b : Bool). through (kill_entry g) d'' (cond b (chain_from g d (most - (i + 1)) (link g d at)) []))
             (eq-eqb (marker g d at) 0xfe (sym w ∙ ys))
-            ∙ ap (λ (k : ℕ). through (kill_entry g) d'' (chain_from g d (left - 1) k)) (sym x);
+            ∙ ap (λ (k : ℕ). through (kill_entry g) d'' (chain_from g d (most - (i + 1)) k)) (sym x);
         kept = rw e (kept_trans f.kept (kept-kill d' at (kept-room snd.room f.kept) (kept_slot f.kept f.used.slot)));
         used = rw x (snd.next at f.used (sym w ∙ ys));
       }
 
-  pub clearing-end : {d d' : List ℕ} {most s at left : ℕ} → Clearing d most s d' at left → left ≤ 0 → d' ≡ through (kill_entry g) d (chain_from g d most s)
-  clearing-end {d} {d'} {most} {s} {at} {left} f h = sym (f.rest ∙ ap (through (kill_entry g) d') (chain-none g d left at (omega arith)))
+  pub clearing-end : {d d' : List ℕ} {most s at i : ℕ} → Clearing d most s d' at i → most ≤ i → d' ≡ through (kill_entry g) d (chain_from g d most s)
+  clearing-end {d} {d'} {most} {s} {at} {i} f h = sym (f.rest ∙ ap (through (kill_entry g) d') (chain-none g d (most - i) at (omega arith)))
 
   pub freed-same : {d d' : List ℕ} {s : ℕ} (most : ℕ) → Walkable g d → Used g d s → d' ≡ through (free_granule g) d
       (each (entry_granules g d) (chain_from g d most s)) → Same g d d'
   freed-same {d} {d'} {s} most snd u e = rw e (same-all g d (each (entry_granules g d) (chain_from g d most s)) snd.room (low-chain g d snd most s u))
 
-  pub killed : {d d' d'' : List ℕ} {n s : ℕ} → Walkable g d → Used g d s → n ≡ directory_sectors g d → d' ≡ through (free_granule g) d
-      (each (entry_granules g d) (chain_from g d (8 * (n - 2)) s))
-      → d'' ≡ through (kill_entry g) d' (chain_from g d' (8 * (n - 2)) s) → d'' ≡ through (kill_entry g) (through (free_granule g) d (owned g d s))
+  pub killed : {d d' d'' : List ℕ} {n s : ℕ} → Walkable g d → Used g d s → n ≡ 8 * (directory_sectors g d - 2) → d' ≡ through (free_granule g) d
+      (each (entry_granules g d) (chain_from g d n s)) → d'' ≡ through (kill_entry g) d' (chain_from g d' n s) → d'' ≡ through (kill_entry g) (through (free_granule g) d (owned g d s))
       (chain g d s)
   unfolding owned chain
   killed {d} {d'} {d''} {n} {s} snd u q e f =
-      let w : 8 * (n - 2) ≡ length (slots g d) = ap (λ (k : ℕ). 8 * (k - 2)) q ∙ sym (slots_length g d snd.room.ten snd.room.thirty) in
-      f ∙ ap (through (kill_entry g) d') (same-slots-of g d d' snd (freed-same (8 * (n - 2)) snd u e) (8 * (n - 2)) s u)
-      ∙ ap (λ (z : List ℕ). through (kill_entry g) z (chain_from g d (8 * (n - 2)) s)) e
+      let w : n ≡ length (slots g d) = q ∙ sym (slots_length g d snd.room.ten snd.room.thirty) in
+      f ∙ ap (through (kill_entry g) d') (same-slots-of g d d' snd (freed-same n snd u e) n s u)
+      ∙ ap (λ (z : List ℕ). through (kill_entry g) z (chain_from g d n s)) e
       ∙ ap (λ (k : ℕ). through (kill_entry g) (through (free_granule g) d (each (entry_granules g d) (chain_from g d k s))) (chain_from g d k s)) w

@@ -34,16 +34,18 @@ fn mask(u: usize, n: usize) -> usize
     ((1 << n) - 1) << u
 }
 
-// A GAT byte with n bits from bit u on put: set, or clear.
+// A GAT byte with n bits from bit u on put: set, or clear. Which of the two goes along as a flag, as in `mark` of specs/, over which both are
+// one contract; a closure would need its own in each of three signatures.
 fn put_bits(byte: usize, u: usize, n: usize, set: bool) -> usize
     requires { (byte < 256) × (u + n ≤ 8) }
     ensures { Read (through (put_bit set) byte (count u n)) result }
 {
     let bits = mask(u, n);
     if set {
-        return byte | bits;
+        byte | bits
+    } else {
+        byte - (byte & bits)
     }
-    byte - (byte & bits)
 }
 
 // Takes or gives back n granules of block b from unit u on, by one store.
@@ -52,10 +54,11 @@ fn mark_units(image: &mut [u8], g: Geometry, b: usize, u: usize, n: usize, set: 
     ensures { image.new ≡ through (mark g set) image.old (count (b * g.units + u) n) }
 {
     let at = layout::gat_at(image, g, b);
-    image[at] = put_bits(layout::wide(image[at]), u, n, set) as u8;
+    image[at] = put_bits(usize::from(image[at]), u, n, set) as u8;
 }
 
-// Takes or gives back n granules from a on, block by block.
+// Takes or gives back n granules from a on, block by block. The first block's part may be short, and the last one's: no step is like the next,
+// and this loop and that of `run_taken` stay a `while`.
 pub fn mark_run(image: &mut [u8], g: Geometry, a: usize, n: usize, set: bool)
     requires { Room g image.old × (a + n ≤ granules g) }
     ensures { image.new ≡ through (mark g set) image.old (count a n) }
@@ -120,13 +123,10 @@ pub fn free_entry(image: &mut [u8], g: Geometry, s: usize)
     requires { Walkable g image.old × Used g image.old s }
     ensures { image.new ≡ through (free_granule g) image.old (entry_granules g image.old s) }
 {
-    let n = layout::runs(image, g, s);
-    let mut j = 0;
-    while j < n {
+    for j in 0..layout::runs(image, g, s) {
         let a = layout::run_start(image, g, s, j);
         let len = layout::run_length(image, g, s, j);
         free_run(image, g, a, len);
-        j += 1;
     }
 }
 
@@ -137,25 +137,23 @@ pub fn free_chain(image: &mut [u8], g: Geometry, s: usize, most: usize)
         (each (entry_granules g image.old) (chain_from g image.old most s)) }
 {
     let mut at = s;
-    let mut left = most;
-    while 0 < left {
+    for _ in 0..most {
         free_entry(image, g, at);
         if layout::field(image, g, at, layout::MARKER) != layout::HANDS_ON {
             return;
         }
         at = layout::field(image, g, at, layout::LINK);
-        left -= 1;
     }
 }
 
-// Clears the entries of a file from the one at slot s on. Each is left by what its marker and link said before.
+// Clears the entries of a file from the one at slot s on. Each is left by what its marker and link said before: so this walk is not that of
+// `free_chain`, which reads an entry after it was worked on.
 pub fn kill_chain(image: &mut [u8], g: Geometry, s: usize, most: usize)
     requires { Walkable g image.old × Used g image.old s }
     ensures { image.new ≡ through (kill_entry g) image.old (chain_from g image.old most s) }
 {
     let mut at = s;
-    let mut left = most;
-    while 0 < left {
+    for _ in 0..most {
         let marker = layout::field(image, g, at, layout::MARKER);
         let link = layout::field(image, g, at, layout::LINK);
         kill_entry(image, g, at);
@@ -163,7 +161,6 @@ pub fn kill_chain(image: &mut [u8], g: Geometry, s: usize, most: usize)
             return;
         }
         at = link;
-        left -= 1;
     }
 }
 
@@ -173,7 +170,7 @@ pub fn kill_file(image: &mut [u8], g: Geometry, s: usize)
     ensures { image.new ≡ through (kill_entry g) (through (free_granule g) image.old (owned g image.old s))
         (chain g image.old s) }
 {
-    let most = 8 * (layout::directory_sectors(image, g) - 2);
+    let most = layout::slots(image, g);
     free_chain(image, g, s, most);
     kill_chain(image, g, s, most);
 }
@@ -183,16 +180,11 @@ pub fn kill_file(image: &mut [u8], g: Geometry, s: usize)
 pub fn kept_columns(g: Geometry, row: usize) -> usize
     ensures { Keeps g row result }
 {
-    if g.system {
-        if row < 4 {
-            return 8;
-        }
-        return 0;
+    match (g.system, row) {
+        (true, 0..=3) => 8,
+        (false, 0) => 2,
+        _ => 0,
     }
-    if row < 1 {
-        return 2;
-    }
-    0
 }
 
 // The first permitted slot with HIT byte 0, by rising slot number; 256 where there is none. A row begins behind its kept slots.
@@ -224,7 +216,7 @@ pub fn clear_bits(byte: usize, bits: usize) -> usize
     ensures { (result ≡ clear_bits bits byte) × (result ≤ 8) }
 {
     let low = byte % (1 << bits);
-    bits - (usize::count_ones(low) as usize)
+    bits - low.count_ones() as usize
 }
 
 // Whether none of them is.
@@ -241,14 +233,11 @@ pub fn block_taken(image: &[u8], g: Geometry, n: usize) -> bool
     requires { Room g image.now × (n < granules g) }
     ensures { result ≡ all (eqb (n % g.units) 0 ∷ every (taken g image.now) (count n g.units) ∷ []) }
 {
-    if n % g.units != 0 {
-        return false;
-    }
-    all_set(layout::gat_byte(image, g, n / g.units), g.units)
+    n % g.units == 0 && all_set(layout::gat_byte(image, g, n / g.units), g.units)
 }
 
 // 1 in each of eight bytes.
-const ONE_EACH: u64 = 72340172838076673;
+const ONE_EACH: u64 = 0x0101_0101_0101_0101;
 
 // How many granules of eight blocks from block b on are free: what is set of their bits is counted in one number.
 pub fn free_in_eight(image: &[u8], g: Geometry, b: usize) -> usize
@@ -257,7 +246,7 @@ pub fn free_in_eight(image: &[u8], g: Geometry, b: usize) -> usize
 {
     let x = layout::eight(image, layout::gat_at(image, g, b));
     let bits = mask(0, g.units) as u64 * ONE_EACH;
-    8 * g.units - (u64::count_ones(x & bits) as usize)
+    8 * g.units - (x & bits).count_ones() as usize
 }
 
 // How many granules are free, by one pass over the GAT, eight bytes at a time: the listing asks for the number alone, and the pass of
@@ -269,13 +258,14 @@ pub fn free_count(image: &[u8], g: Geometry) -> usize
 {
     let mut n = 0;
     let mut b = g.blocks;
+    // by eight and then by one, from where the eights end: no range has both steps
     while 8 <= b {
         b -= 8;
-        n = n + free_in_eight(image, g, b);
+        n += free_in_eight(image, g, b);
     }
     while 0 < b {
         b -= 1;
-        n = n + clear_bits(layout::gat_byte(image, g, b), g.units);
+        n += clear_bits(layout::gat_byte(image, g, b), g.units);
     }
     n
 }

@@ -4,73 +4,67 @@ use Rattle.seek.proofs.Frame.{same-room, same-slot, same-sound, same-used, same-
 use Rattle.space.proofs.Folds.{unchaining-start, unchaining-step, unchaining-stop, unchaining-end, unchained-same}
 use Rattle.space.proofs.free_chain.Goals as goal
 
-pub loop-left-init : goal.loop-left-init
-loop-left-init c = unchaining-start _ _ _ _ c.requires.1
+pub loop-init : goal.loop-init
+loop-init c = unchaining-start _ _ _ _ c.requires.1
 
 pub free_entry-requires : goal.free_entry-requires
 free_entry-requires c = let p = c.requires in (
-  same-sound _ _ _ p.0 c.loop-left.invariant.same,
-  same-used _ _ _ p.0.room c.loop-left.invariant.same
-      c.loop-left.invariant.used,
+  same-sound _ _ _ p.0 c.loop.invariant.same,
+  same-used _ _ _ p.0.room c.loop.invariant.same
+      c.loop.invariant.used,
 )
 
 pub field-requires : goal.field-requires
 field-requires c = let e = unchained-same _ c.requires.0
-    c.loop-left.invariant c.free_entry.ensures in (
+    c.loop.invariant c.free_entry.ensures in (
       same-room _ _ _ c.requires.0.room e,
       same-slot _ _ _
           c.requires.0.room e
-          c.loop-left.invariant.used.slot,
+          c.loop.invariant.used.slot,
       omega arith,
     )
 
 pub shape_of-image-then-field-ne-HANDS_ON : goal.shape_of-image-then-field-ne-HANDS_ON
-shape_of-image-then-field-ne-HANDS_ON c = let free-entry = c.free_entry in let l = c.loop-left in let p = c.requires in
+shape_of-image-then-field-ne-HANDS_ON c = let free-entry = c.free_entry in let l = c.loop in let p = c.requires in
     (unchained-same _ p.0 l.invariant free-entry.ensures).long
 
 pub returns-then-field-ne-HANDS_ON : goal.returns-then-field-ne-HANDS_ON
 returns-then-field-ne-HANDS_ON c = let e = unchained-same _ c.requires.0
-    c.loop-left.invariant c.free_entry.ensures in
+    c.loop.invariant c.free_entry.ensures in
     unchaining-stop _ c.requires.0
-    c.loop-left.invariant
-    c.loop-left-test.true c.free_entry.ensures
+    c.loop.invariant
+    c.loop-test.true c.free_entry.ensures
     (c.field.ensures.is ∙ same-field _ _ _ c.requires.0.room e
-    _ 0x1e c.loop-left.invariant.used.slot (omega arith)) c.if-field-ne-HANDS_ON.true
+    _ 0x1e c.loop.invariant.used.slot (omega arith)) c.if-field-ne-HANDS_ON.true
 
 pub field-at-requires : goal.field-at-requires
 field-at-requires c = let e = unchained-same _ c.requires.0
-    c.loop-left.invariant
+    c.loop.invariant
     c.free_entry.ensures in (
       same-room _ _ _ c.requires.0.room e,
       same-slot _ _ _
           c.requires.0.room e
-          c.loop-left.invariant.used.slot,
+          c.loop.invariant.used.slot,
       omega arith,
     )
 
-pub overflow_sub-left : goal.overflow_sub-left
-overflow_sub-left c = omega arith
-
-pub loop-left-smaller : goal.loop-left-smaller
-loop-left-smaller c = omega arith
-
-pub loop-left-preserved : goal.loop-left-preserved
-loop-left-preserved c = let e = unchained-same _ c.requires.0
-    c.loop-left.invariant
+pub loop-preserved : goal.loop-preserved
+loop-preserved c = let e = unchained-same _ c.requires.0
+    c.loop.invariant
     c.free_entry.ensures in
     unchaining-step _ c.requires.0
-    c.loop-left.invariant
-    c.loop-left-test.true
+    c.loop.invariant
+    c.loop-test.true
     c.free_entry.ensures
     (c.field.ensures.is ∙ same-field _ _ _
     c.requires.0.room e _ 0x1e
-    c.loop-left.invariant.used.slot (omega arith))
+    c.loop.invariant.used.slot (omega arith))
     c.if-field-ne-HANDS_ON.false (c.field-at.ensures.is ∙ same-field _ _ _
     c.requires.0.room e _ 0x1f
-    c.loop-left.invariant.used.slot (omega arith))
+    c.loop.invariant.used.slot (omega arith))
 
 pub shape_of-image : goal.shape_of-image
-shape_of-image c = c.loop-left.invariant.same.long
+shape_of-image c = c.loop.invariant.same.long
 
 pub returns : goal.returns
-returns c = unchaining-end _ c.loop-left.invariant c.loop-left-test.false
+returns c = unchaining-end _ c.loop.invariant c.loop-test.false

@@ -1,6 +1,6 @@
 use Rattle.space.proofs.Clear.{Freed, freed-start, freed-more, freed-step, freed-end}
 use native.Mathlib.Omega.{arith}
-use Prim.Native.Nat.{ℕ, ◌-◌}
+use Prim.Native.Nat.{ℕ}
 use mathlib.Core.Path.{◌≡◌, subst}
 use Rattle.space.proofs.free_count.Goals as goal
 

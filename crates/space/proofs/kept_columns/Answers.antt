@@ -1,18 +1,15 @@
 use Rattle.space.proofs.First.{keeps-eight, keeps-system, keeps-two, keeps-data}
+use native.Mathlib.Omega.{arith}
 use Rattle.space.proofs.kept_columns.Goals as goal
 
--- src/lib.rt:142:13
-pub returns-then-row-lt4 : goal.returns-then-row-lt4
-returns-then-row-lt4 c = keeps-eight _ _ c.if-g.true c.if-row-lt4.true
+pub returns-in-true-0-to-3 : goal.returns-in-true-0-to-3
+returns-in-true-0-to-3 c = keeps-eight _ _ c.in-true-0-to-3.is-0 (omega arith)
 
--- src/lib.rt:144:9
-pub returns-then-g : goal.returns-then-g
-returns-then-g c = keeps-system _ _ c.if-g.true c.if-row-lt4.false
+pub returns-in-false-eq0 : goal.returns-in-false-eq0
+returns-in-false-eq0 c = keeps-two _ _ c.in-false-eq0.is-0 (omega arith)
 
--- src/lib.rt:147:9
-pub returns-then-row-lt1 : goal.returns-then-row-lt1
-returns-then-row-lt1 c = keeps-two _ _ c.if-g.false c.if-row-lt1.true
+pub returns-in_default : goal.returns-in_default
+returns-in_default c = keeps-system _ _ c.in_default.is-0 (omega arith)
 
--- src/lib.rt:137:1
-pub returns : goal.returns
-returns c = keeps-data _ _ c.if-g.false c.if-row-lt1.false
+pub returns-in_default-2 : goal.returns-in_default-2
+returns-in_default-2 c = let n = c.in_default.is-1.1 in keeps-data _ _ c.in_default.is-0 (omega arith)

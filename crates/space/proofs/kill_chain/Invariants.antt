@@ -1,8 +1,5 @@
 use Rattle.space.proofs.Folds.{Clearing}
 use Rattle.space.proofs.kill_chain.Given as goal
 
-abbrev pub invariant-loop-left : goal.invariant-loop-left
-invariant-loop-left l = Clearing l.g l.initial.image l.most l.s l.image l.at l.left
-
-abbrev pub decreases-loop-left : goal.decreases-loop-left
-decreases-loop-left l = l.left
+abbrev pub invariant-loop : goal.invariant-loop
+invariant-loop l = Clearing l.g l.initial.image l.most l.s l.image l.at l.counter
