@@ -1,3 +1,4 @@
+pub mod Chains
 pub mod Passes
 pub mod Bridge
 pub mod Noting

@@ -30,6 +30,10 @@ use Rattle.fault_kinds.specs.Overlap.{overlaps, runs_meet}
 pub from_zero : (n : ℕ) → count 0 n ≡ count 0 (n - 0)
 from_zero n = let e : n ≡ n - 0 = omega arith in ap (count 0) e
 
+-- what is left of n after one more
+pub one-less : (n k : ℕ) → n - k - 1 ≡ n - (k + 1)
+one-less n k = omega arith
+
 module _ (p : ℕ → Bool) {n k : ℕ} where
   -- the test failed at one, has passed up to here, has passed at all
   pub failed : {m : ℕ} → n ≡ m → every p (count 0 n) ≡ every p (count k (n - k)) → k < n → p k ≡ false → false ≡ every p (count 0 m)

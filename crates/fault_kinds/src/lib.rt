@@ -34,14 +34,7 @@ fn pairs_hold(image: &[u8], g: Geometry, s: usize) -> bool
     ensures { result ≡ pairs_hold g image.now s }
 {
     let n = layout::runs(image, g, s);
-    let mut k = 0;
-    while k < 4 {
-        if !pair_holds(image, g, s, n, k) {
-            return false;
-        }
-        k += 1;
-    }
-    true
+    (0..4).all(|k| pair_holds(image, g, s, n, k))
 }
 
 // Whether an extension in use is at x.
@@ -124,14 +117,12 @@ fn note_walk(image: &[u8], g: Geometry, p: usize, n: usize, files: &mut [u8; 256
     ensures { files.new ≡ notes files.old (p + 1) (reach g image.now n p) }
 {
     let mut s = p;
-    let mut left = n;
-    while 0 < left {
+    for gone in 0..n {
         note(files, s, p);
         if !hands_on(image, g, s) {
             return;
         }
         s = layout::field(image, g, s, layout::LINK);
-        left -= 1;
     }
 }
 
@@ -155,10 +146,8 @@ pub fn note_files(image: &[u8], g: Geometry, files: &mut [u8; 256])
     ensures { FileNoted g image.now files.new }
 {
     let n = slots(image, g);
-    let mut p = 0;
-    while p < 256 {
+    for p in 0..256 {
         note_file(image, g, p, n, files);
-        p += 1;
     }
 }
 
@@ -241,10 +230,8 @@ pub fn note_goods(image: &[u8], g: Geometry, files: &[u8], goods: &mut [u8; 256]
     requires { Room g image.now × FileNoted g image.now files.now × Leading g image.now 0 goods.old }
     ensures { Told g image.now goods.new }
 {
-    let mut b = 0;
-    while b < 256 {
+    for b in 0..256 {
         tell_from(image, g, files, b, goods);
-        b += 1;
     }
 }
 
@@ -300,14 +287,7 @@ fn runs_hold(image: &[u8], g: Geometry, s: usize) -> bool
     ensures { result ≡ runs_hold g image.now s }
 {
     let n = layout::runs(image, g, s);
-    let mut k = 0;
-    while k < n {
-        if !run_holds(image, g, s, k) {
-            return false;
-        }
-        k += 1;
-    }
-    true
+    (0..n).all(|k| run_holds(image, g, s, k))
 }
 
 pub fn run_fault(image: &[u8], g: Geometry, s: usize) -> bool
@@ -325,15 +305,7 @@ pub fn all_taken(image: &[u8], g: Geometry, a: usize, n: usize) -> bool
     requires { Room g image.now × (a + n ≤ granules g) }
     ensures { result ≡ every (taken g image.now) (count a n) }
 {
-    let end = a + n;
-    let mut i = a;
-    while i < end {
-        if !layout::taken(image, g, i) {
-            return false;
-        }
-        i += 1;
-    }
-    true
+    (a..a + n).all(|i| layout::taken(image, g, i))
 }
 
 fn gat_holds(image: &[u8], g: Geometry, s: usize) -> bool
@@ -341,14 +313,12 @@ fn gat_holds(image: &[u8], g: Geometry, s: usize) -> bool
     ensures { result ≡ gat_holds g image.now s }
 {
     let n = layout::runs(image, g, s);
-    let mut k = 0;
-    while k < n {
+    for k in 0..n {
         let a = layout::run_start(image, g, s, k);
         let m = layout::run_length(image, g, s, k);
         if !all_taken(image, g, a, m) {
             return false;
         }
-        k += 1;
     }
     true
 }
@@ -384,14 +354,7 @@ fn entry_in(image: &[u8], g: Geometry, s: usize, b: usize, m: usize) -> bool
     ensures { result ≡ some (run_in g image.now b m s) (count 0 (runs g image.now s)) }
 {
     let n = layout::runs(image, g, s);
-    let mut k = 0;
-    while k < n {
-        if run_in(image, g, s, k, b, m) {
-            return true;
-        }
-        k += 1;
-    }
-    false
+    (0..n).any(|k| run_in(image, g, s, k, b, m))
 }
 
 // Whether run k of s and run l of t have a granule in common.
@@ -410,14 +373,7 @@ fn run_meets(image: &[u8], g: Geometry, s: usize, t: usize, k: usize) -> bool
     ensures { result ≡ run_meets g image.now s t k }
 {
     let n = layout::runs(image, g, t);
-    let mut l = 0;
-    while l < n {
-        if runs_meet(image, g, s, k, t, l) {
-            return true;
-        }
-        l += 1;
-    }
-    false
+    (0..n).any(|l| runs_meet(image, g, s, k, t, l))
 }
 
 // Whether the entries of two slots have a granule in common.
@@ -426,14 +382,7 @@ fn entries_meet(image: &[u8], g: Geometry, s: usize, t: usize) -> bool
     ensures { result ≡ entries_meet g image.now s t }
 {
     let n = layout::runs(image, g, s);
-    let mut k = 0;
-    while k < n {
-        if run_meets(image, g, s, t, k) {
-            return true;
-        }
-        k += 1;
-    }
-    false
+    (0..n).any(|k| run_meets(image, g, s, t, k))
 }
 
 // Whether run l of an entry comes before run k and has a granule in common with it.
@@ -453,14 +402,7 @@ fn meets_earlier(image: &[u8], g: Geometry, s: usize, k: usize) -> bool
     ensures { result ≡ meets_earlier g image.now s k }
 {
     let n = layout::runs(image, g, s);
-    let mut l = 0;
-    while l < n {
-        if earlier(image, g, s, k, l) {
-            return true;
-        }
-        l += 1;
-    }
-    false
+    (0..n).any(|l| earlier(image, g, s, k, l))
 }
 
 // Whether two runs of an entry have a granule in common.
@@ -469,14 +411,7 @@ fn twice(image: &[u8], g: Geometry, s: usize) -> bool
     ensures { result ≡ some (meets_earlier g image.now s) (count 0 (runs g image.now s)) }
 {
     let n = layout::runs(image, g, s);
-    let mut k = 0;
-    while k < n {
-        if meets_earlier(image, g, s, k) {
-            return true;
-        }
-        k += 1;
-    }
-    false
+    (0..n).any(|k| meets_earlier(image, g, s, k))
 }
 
 // Whether the entry of slot t, in use, has a granule with that of s.
@@ -498,14 +433,7 @@ fn shared_below(image: &[u8], g: Geometry, s: usize) -> bool
     requires { Room g image.now × Slot g image.now s }
     ensures { result ≡ some (shares g image.now s) (count 0 s) }
 {
-    let mut t = 0;
-    while t < s {
-        if shares(image, g, s, t) {
-            return true;
-        }
-        t += 1;
-    }
-    false
+    (0..s).any(|t| shares(image, g, s, t))
 }
 
 pub fn shared_fault(image: &[u8], g: Geometry, s: usize) -> bool
@@ -529,8 +457,7 @@ fn whole_from(image: &[u8], g: Geometry, goods: &[u8], p: usize, n: usize) -> bo
     ensures { result ≡ every (λ s. not (chain_fault g image.now s)) (reach g image.now n p) }
 {
     let mut s = p;
-    let mut left = n;
-    while 0 < left {
+    for gone in 0..n {
         if chain_fault(image, g, goods, s) {
             return false;
         }
@@ -538,7 +465,6 @@ fn whole_from(image: &[u8], g: Geometry, goods: &[u8], p: usize, n: usize) -> bo
             return true;
         }
         s = layout::field(image, g, s, layout::LINK);
-        left -= 1;
     }
     true
 }
@@ -549,15 +475,13 @@ fn count_from(image: &[u8], g: Geometry, p: usize, n: usize) -> usize
     ensures { Below 65536 (length (each (entry_granules g image.now) (reach g image.now n p))) result }
 {
     let mut s = p;
-    let mut left = n;
     let mut c = 0;
-    while 0 < left {
+    for gone in 0..n {
         c += extent::entry_length(image, g, s);
         if !hands_on(image, g, s) {
             return c;
         }
         s = layout::field(image, g, s, layout::LINK);
-        left -= 1;
     }
     c
 }

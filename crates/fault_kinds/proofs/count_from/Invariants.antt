@@ -1,13 +1,10 @@
 use Rattle.fault_kinds.proofs.Passes.{size}
 use Rattle.fault_kinds.specs.Reach.{reach}
 use Rattle.layout.specs.Room.{Slot}
-use Prim.Native.Nat.{◌+◌, ◌*◌, ◌≤◌}
+use Prim.Native.Nat.{◌-◌, ◌+◌, ◌*◌, ◌≤◌}
 use mathlib.Core.Path.{◌≡◌}
 use Rattle.fault_kinds.proofs.count_from.Given as goal
 
-abbrev pub invariant-loop-left : goal.invariant-loop-left
-invariant-loop-left l = (size l.g l.image (reach l.g l.image l.n l.p) ≡ l.c + size l.g l.image (reach l.g l.image l.left l.s)) × Slot l.g l.image l.s ×
-    (l.c + 128 * l.left ≤ 32768)
-
-abbrev pub decreases-loop-left : goal.decreases-loop-left
-decreases-loop-left l = l.left
+abbrev pub invariant-loop-gone : goal.invariant-loop-gone
+invariant-loop-gone l = (size l.g l.image (reach l.g l.image l.n l.p) ≡ l.c + size l.g l.image (reach l.g l.image (l.n - l.gone) l.s)) × Slot l.g l.image l.s ×
+    (l.c + 128 * (l.n - l.gone) ≤ 32768)

@@ -27,9 +27,6 @@ pub returns-then-not-all_taken : goal.returns-then-not-all_taken
 returns-then-not-all_taken c = let run-start = c.run_start-a in let loop-test = c.loop-k-test in let l = c.loop-k in gat-no _ _ _ _ _ l.invariant loop-test.true
     (run-taken _ _ _ _ run-start.ensures.is c.run_length-m.ensures.is (is-false c.all_taken.ensures c.if-not-all_taken.true))
 
-pub loop-k-smaller : goal.loop-k-smaller
-loop-k-smaller c = omega arith
-
 pub loop-k-preserved : goal.loop-k-preserved
 loop-k-preserved c = let run-start = c.run_start-a in let loop-test = c.loop-k-test in let l = c.loop-k in gat-on _ _ _ _ _ l.invariant loop-test.true
     (run-taken _ _ _ _ run-start.ensures.is c.run_length-m.ensures.is (is-true c.all_taken.ensures c.if-not-all_taken.false))

@@ -8,6 +8,3 @@ use Rattle.fault_kinds.proofs.gat_holds.Given as goal
 
 abbrev pub invariant-loop-k : goal.invariant-loop-k
 invariant-loop-k l = every (taken l.g l.image) (entry_granules l.g l.image l.s) ≡ every (taken l.g l.image) (named l.g l.image l.s (count l.k (l.n - l.k)))
-
-abbrev pub decreases-loop-k : goal.decreases-loop-k
-decreases-loop-k l = l.n - l.k

@@ -3,19 +3,13 @@ use native.Mathlib.Omega.{arith}
 use Rattle.fault_kinds.proofs.note_files.Goals as goal
 
 pub loop-p-init : goal.loop-p-init
-loop-p-init c = (c.requires.1, omega arith)
+loop-p-init c = c.requires.1
 
 pub note_file-requires : goal.note_file-requires
-note_file-requires c = let slots = c.slots-n in let p = c.requires in (p.0, c.loop-p-test.true, slots.ensures.is, c.loop-p.invariant.0)
-
-pub overflow_add-p : goal.overflow_add-p
-overflow_add-p c = omega arith
-
-pub loop-p-smaller : goal.loop-p-smaller
-loop-p-smaller c = omega arith
+note_file-requires c = let slots = c.slots-n in let p = c.requires in (p.0, c.loop-p-test.true, slots.ensures.is, c.loop-p.invariant)
 
 pub loop-p-preserved : goal.loop-p-preserved
-loop-p-preserved c = (c.note_file.ensures, omega arith)
+loop-p-preserved c = c.note_file.ensures
 
 pub returns : goal.returns
-returns c = walking-end _ _ _ c.loop-p-test.false c.loop-p.invariant.0
+returns c = walking-end _ _ _ c.loop-p-test.false c.loop-p.invariant

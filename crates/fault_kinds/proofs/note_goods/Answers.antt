@@ -3,19 +3,13 @@ use native.Mathlib.Omega.{arith}
 use Rattle.fault_kinds.proofs.note_goods.Goals as goal
 
 pub loop-b-init : goal.loop-b-init
-loop-b-init c = (c.requires.2, omega arith)
+loop-b-init c = c.requires.2
 
 pub tell_from-requires : goal.tell_from-requires
-tell_from-requires c = let p = c.requires in (p.0, p.1, c.loop-b-test.true, c.loop-b.invariant.0)
-
-pub overflow_add-b : goal.overflow_add-b
-overflow_add-b c = omega arith
-
-pub loop-b-smaller : goal.loop-b-smaller
-loop-b-smaller c = omega arith
+tell_from-requires c = let p = c.requires in (p.0, p.1, c.loop-b-test.true, c.loop-b.invariant)
 
 pub loop-b-preserved : goal.loop-b-preserved
-loop-b-preserved c = (c.tell_from.ensures, omega arith)
+loop-b-preserved c = c.tell_from.ensures
 
 pub returns : goal.returns
-returns c = leading_end _ _ _ c.loop-b-test.false c.loop-b.invariant.0
+returns c = leading_end _ _ _ c.loop-b-test.false c.loop-b.invariant

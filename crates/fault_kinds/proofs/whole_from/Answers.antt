@@ -1,44 +1,43 @@
-use Rattle.fault_kinds.proofs.Passes.{so, not_so, whole-no, whole-end, whole-on, whole-none, hands-slot}
+use mathlib.Core.Path.{◌≡◌}
+use Prim.Native.Nat.{◌-◌}
+use Rattle.fault_kinds.proofs.Passes.{one-less, so, not_so, whole-no, whole-end, whole-on, whole-none, hands-slot}
 use Rattle.lists.specs.Tests.{is-false, is-true}
 use native.Mathlib.Omega.{arith}
 use mathlib.Core.Path.{refl}
 use Rattle.fault_kinds.proofs.whole_from.Goals as goal
 
-pub loop-left-init : goal.loop-left-init
-loop-left-init c = (refl, c.requires.1)
+pub loop-gone-init : goal.loop-gone-init
+loop-gone-init c = (let e : c.args.n - 0 ≡ c.args.n = omega arith in rw e refl, c.requires.1)
 
 pub chain_fault-requires : goal.chain_fault-requires
-chain_fault-requires c = let p = c.requires in (p.0, c.loop-left.invariant.1, p.2)
+chain_fault-requires c = let p = c.requires in (p.0, c.loop-gone.invariant.1, p.2)
 
 pub returns-then-chain_fault : goal.returns-then-chain_fault
-returns-then-chain_fault c = whole-no _ _ _ _ _ _ c.loop-left.invariant.0 c.loop-left-test.true
+returns-then-chain_fault c = whole-no _ _ _ _ _ _ c.loop-gone.invariant.0 (omega arith)
     (so c.chain_fault.ensures c.if-chain_fault.true)
 
 pub hands_on-requires : goal.hands_on-requires
-hands_on-requires c = let l = c.loop-left in let p = c.requires in (p.0, l.invariant.1)
+hands_on-requires c = let l = c.loop-gone in let p = c.requires in (p.0, l.invariant.1)
 
 pub returns-then-not-hands_on : goal.returns-then-not-hands_on
-returns-then-not-hands_on c = let chain-fault = c.chain_fault in let loop-test = c.loop-left-test in let l = c.loop-left in
-    whole-end _ _ _ _ _ _ l.invariant.0 loop-test.true (not_so chain-fault.ensures c.if-chain_fault.false)
+returns-then-not-hands_on c = let chain-fault = c.chain_fault in let l = c.loop-gone in
+    whole-end _ _ _ _ _ _ l.invariant.0 (omega arith) (not_so chain-fault.ensures c.if-chain_fault.false)
     (is-false c.hands_on.ensures c.if-not-hands_on.true)
 
 pub field-s-requires : goal.field-s-requires
 field-s-requires c = (
   c.requires.0,
-  c.loop-left.invariant.1,
+  c.loop-gone.invariant.1,
   omega arith,
 )
 
-pub loop-left-smaller : goal.loop-left-smaller
-loop-left-smaller c = omega arith
-
-pub loop-left-preserved : goal.loop-left-preserved
-loop-left-preserved c = let if1 = c.if-chain_fault in let chain-fault = c.chain_fault in let loop-test = c.loop-left-test in let l = c.loop-left in (
-  whole-on _ _ _ _ _ _ l.invariant.0 loop-test.true (not_so chain-fault.ensures if1.false)
-      (is-true c.hands_on.ensures c.if-not-hands_on.false) c.field-s.ensures.is,
+pub loop-gone-preserved : goal.loop-gone-preserved
+loop-gone-preserved c = let if1 = c.if-chain_fault in let chain-fault = c.chain_fault in let l = c.loop-gone in (
+  rw (← one-less c.args.n c.loop-gone.gone) (whole-on _ _ _ _ _ _ l.invariant.0 (omega arith) (not_so chain-fault.ensures if1.false)
+      (is-true c.hands_on.ensures c.if-not-hands_on.false) c.field-s.ensures.is),
   hands-slot _ _ _
       (is-true c.hands_on.ensures c.if-not-hands_on.false) c.field-s.ensures.is,
 )
 
 pub returns : goal.returns
-returns c = whole-none _ _ _ _ _ _ c.loop-left.invariant.0 c.loop-left-test.false
+returns c = whole-none _ _ _ _ _ _ c.loop-gone.invariant.0 (omega arith)

@@ -1,3 +1,4 @@
+use Prim.Native.Nat.{◌-◌}
 use Rattle.fault_kinds.proofs.Passes.{firm}
 use Rattle.fault_kinds.specs.Reach.{reach}
 use Rattle.layout.specs.Room.{Slot}
@@ -5,8 +6,5 @@ use Rattle.meaning.specs.Lists.{every}
 use mathlib.Core.Path.{◌≡◌}
 use Rattle.fault_kinds.proofs.whole_from.Given as goal
 
-abbrev pub invariant-loop-left : goal.invariant-loop-left
-invariant-loop-left l = (every (firm l.g l.image) (reach l.g l.image l.n l.p) ≡ every (firm l.g l.image) (reach l.g l.image l.left l.s)) × Slot l.g l.image l.s
-
-abbrev pub decreases-loop-left : goal.decreases-loop-left
-decreases-loop-left l = l.left
+abbrev pub invariant-loop-gone : goal.invariant-loop-gone
+invariant-loop-gone l = (every (firm l.g l.image) (reach l.g l.image l.n l.p) ≡ every (firm l.g l.image) (reach l.g l.image (l.n - l.gone) l.s)) × Slot l.g l.image l.s
