@@ -7,6 +7,11 @@ use native.Mathlib.Omega.{arith}
 use native.Mathlib.Nat.{zero-add}
 use lib.Dec.{T, eqb, ltb, ltb→lt, lt→ltb}
 use lib.ListN.{length}
+use Rattle.std.specs.Prelude.{MatchOption}
+use Rattle.std.specs.Option.{is_some, unwrap_or}
+use Rattle.std.specs.declared.option.Option.{Option}
+use Rattle.std.specs.declared.option.Option.TheVariants.{None, Some}
+use borrow.Author.Tests.{lt-ltb, le-ltb}
 use Rattle.meaning.specs.Lists.{count, every, some, has, keep, all, first_or}
 use Rattle.meaning.specs.Layout.{is_slot, slots, directory_sectors, directory_granules, granule_sectors, round_up}
 use Rattle.lists.specs.Sizes
@@ -140,6 +145,19 @@ module _ (g : Geometry) (d : List ℕ) where
               let m = (low x (first_or 256 (keep (starts_to g d x) (count 0 256))) (Kinds.first-in 256 j)).0 in
               let q = first-is x (keep (starts_to g d x) (count 0 256)) refl in
               omega (arith, e, m, q)
+
+  -- the first file that meets x, where there is one
+  abbrev pub First : ℕ → Option ℕ → Type 0
+  First x r = MatchOption r (first_file g d x ≡ 256) (λ p. (p ≡ first_file g d x) × (p < 256))
+
+  pub walked_by : (x : ℕ) (r : Option ℕ) → First x r → is_some r ≡ has (walked g d) x
+  walked_by x None e = sym (le-ltb _ _ (omega arith)) ∙ walked-is x
+  walked_by x (Some p) h = sym (lt-ltb _ _ (omega arith)) ∙ walked-is x
+
+  pub file_by : (x : ℕ) (r : Option ℕ) → First x r → Slot g d x → (unwrap_or r x ≡ file_of g d x) × Slot g d (unwrap_or r x)
+  file_by x None e k = (first-self x (omega arith), k)
+  file_by x (Some p) h k =
+      let j = first-file x (omega arith) in (h.0 ∙ j.0, subst (λ (n : ℕ). Slot g d n) (sym h.0) j.1)
 
   -- Extensions ----------------------------------------------------------------------------------------------------------------------
 

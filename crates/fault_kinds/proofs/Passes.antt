@@ -35,47 +35,11 @@ pub one-less : (n k : ℕ) → n - k - 1 ≡ n - (k + 1)
 one-less n k = omega arith
 
 module _ (p : ℕ → Bool) {n k : ℕ} where
-  -- the test failed at one, has passed up to here, has passed at all
-  pub failed : {m : ℕ} → n ≡ m → every p (count 0 n) ≡ every p (count k (n - k)) → k < n → p k ≡ false → false ≡ every p (count 0 m)
-  failed e i h f =
-      sym (ap (λ (j : ℕ). every p (count 0 j)) (sym e) ∙ i ∙ ap (every p) (count-more h) ∙ ap (λ (b : Bool). b && every p (count (k + 1) (n - (k + 1)))) f)
-
-  pub passed : every p (count 0 n) ≡ every p (count k (n - k)) → k < n → p k ≡ true → every p (count 0 n) ≡ every p (count (k + 1) (n - (k + 1)))
-  passed i h t = i ∙ ap (every p) (count-more h) ∙ ap (λ (b : Bool). b && every p (count (k + 1) (n - (k + 1)))) t
-
-  pub held : {m : ℕ} → n ≡ m → every p (count 0 n) ≡ every p (count k (n - k)) → n ≤ k → true ≡ every p (count 0 m)
-  held e i h = sym (ap (λ (j : ℕ). every p (count 0 j)) (sym e) ∙ i ∙ ap (every p) (count_none h))
-
-  -- one was found, none up to here, none at all
-  pub found : {m : ℕ} → n ≡ m → some p (count 0 n) ≡ some p (count k (n - k)) → k < n → p k ≡ true → true ≡ some p (count 0 m)
-  found e i h t =
-      sym (ap (λ (j : ℕ). some p (count 0 j)) (sym e) ∙ i ∙ ap (some p) (count-more h) ∙ ap (λ (b : Bool). b || some p (count (k + 1) (n - (k + 1)))) t)
-
-  pub not_yet : some p (count 0 n) ≡ some p (count k (n - k)) → k < n → p k ≡ false → some p (count 0 n) ≡ some p (count (k + 1) (n - (k + 1)))
-  not_yet i h f = i ∙ ap (some p) (count-more h) ∙ ap (λ (b : Bool). b || some p (count (k + 1) (n - (k + 1)))) f
-
-  pub nowhere : {m : ℕ} → n ≡ m → some p (count 0 n) ≡ some p (count k (n - k)) → n ≤ k → false ≡ some p (count 0 m)
-  nowhere e i h = sym (ap (λ (j : ℕ). some p (count 0 j)) (sym e) ∙ i ∙ ap (some p) (count_none h))
-
   keep-in : k < n → p k ≡ true → keep p (count k (n - k)) ≡ k ∷ keep p (count (k + 1) (n - (k + 1)))
   keep-in h t = ap (keep p) (count-more h) ∙ keep-yes p t (count (k + 1) (n - (k + 1)))
 
   keep_out : k < n → p k ≡ false → keep p (count k (n - k)) ≡ keep p (count (k + 1) (n - (k + 1)))
   keep_out h t = ap (keep p) (count-more h) ∙ keep-no p t (count (k + 1) (n - (k + 1)))
-
--- from a on
-pub all_start : (a n : ℕ) → count a n ≡ count a (a + n - a)
-all_start a n = let e : n ≡ a + n - a = omega arith in ap (count a) e
-
-module _ (p : ℕ → Bool) {w : Bool} {n k : ℕ} (i : w ≡ every p (count k (n - k))) where
-  pub all-failed : k < n → p k ≡ false → false ≡ w
-  all-failed h f = sym (i ∙ ap (every p) (count-more h) ∙ ap (λ (b : Bool). b && every p (count (k + 1) (n - (k + 1)))) f)
-
-  pub all-passed : k < n → p k ≡ true → w ≡ every p (count (k + 1) (n - (k + 1)))
-  all-passed h t = i ∙ ap (every p) (count-more h) ∙ ap (λ (b : Bool). b && every p (count (k + 1) (n - (k + 1)))) t
-
-  pub all_held : n ≤ k → true ≡ w
-  all_held h = sym (i ∙ ap (every p) (count_none h))
 
 -- Bool ------------------------------------------------------------------------------------------------------------------------
 
@@ -86,39 +50,7 @@ so e t = sym e ∙ t
 pub not_so : {f a : Bool} → f ≡ a → f ≡ false → a ≡ false
 not_so e t = sym e ∙ t
 
--- neither the last nor one that hands on
-pub bad-ends : (a b : Bool) → b ≡ true → false ≡ not (any (a ∷ b ∷ []))
-unfolding any
-bad-ends true b e = refl
-bad-ends false b e = sym (ap (λ (b : Bool). not (b || false)) e)
-
-pub bad-hands : (a b : Bool) → b ≡ false → not a ≡ not (any (a ∷ b ∷ []))
-unfolding any
-bad-hands true b e = refl
-bad-hands false b e = sym (ap (λ (b : Bool). not (b || false)) e)
-
-pub unlinked : (a b : Bool) → not (any (not a ∷ b ∷ [])) ≡ all (a ∷ not b ∷ [])
-unfolding any all
-unlinked true true = refl
-unlinked true false = refl
-unlinked false true = refl
-unlinked false false = refl
-
--- four tests made in another order
-pub hands-no : (a : Bool) {b : Bool} (cs : List Bool) → b ≡ false → false ≡ all (a ∷ b ∷ cs)
-hands-no a cs e = sym (all-out _ 1 e)
-
-pub hands-third : (a b : Bool) {c : Bool} (cs : List Bool) → c ≡ false → false ≡ all (a ∷ b ∷ c ∷ cs)
-hands-third a b cs e = sym (all-out _ 2 e)
-
-pub hands-fourth : (a b c : Bool) {e : Bool} → e ≡ false → false ≡ all (a ∷ b ∷ c ∷ e ∷ [])
-hands-fourth a b c h = sym (all-out _ 3 h)
-
-pub hands-first : (a : Bool) {b c e : Bool} → b ≡ true → c ≡ true → e ≡ true → a ≡ all (a ∷ b ∷ c ∷ e ∷ [])
-unfolding all
-hands-first true h i j = sym (rw (h, i, j))
-hands-first false h i j = refl
-
+-- a last test that holds
 pub ends-first : (a : Bool) {b : Bool} → b ≡ true → a ≡ all (a ∷ b ∷ [])
 unfolding all
 ends-first true h = sym (rw h)
@@ -198,12 +130,6 @@ module _ (g : Geometry) (d : List ℕ) where
   pub tally-none : (x b : ℕ) → leads g d x b ≡ false → 0 ≡ tally g d x b
   tally-none x b h = sym (tally-no x b h)
 
-  pub tally-bad : (x b : ℕ) → leads g d x b ≡ true → follows_by g d 0x90 b x ≡ false → 2 ≡ tally g d x b
-  tally-bad x b h f = sym (tally-yes x b h ∙ ap {B = ℕ} (λ (t : Bool). cond t 1 2) f)
-
-  pub tally-good : (x b : ℕ) → leads g d x b ≡ true → follows_by g d 0x90 b x ≡ true → 1 ≡ tally g d x b
-  tally-good x b h f = sym (tally-yes x b h ∙ ap {B = ℕ} (λ (t : Bool). cond t 1 2) f)
-
   -- the slots after b from which walks come to x
   abbrev pub later : ℕ → ℕ → List ℕ
   later x b = keep (leads g d x) (count (b + 1) (256 - (b + 1)))
@@ -281,16 +207,6 @@ module _ (g : Geometry) (d : List ℕ) where
   pub runs-lie : (s : ℕ) → in_use g d s ≡ true → run_fault g d s ≡ false → runs_hold g d s ≡ true
   unfolding run_fault
   runs-lie s u f = not-false (runs_hold g d s) (sym (all_yes u _ ∙ all_one _) ∙ f)
-
-  pub in-no : (b m s k : ℕ) {a : ℕ} → a ≡ run_start g d s k → b + m ≤ a → false ≡ run_in g d b m s k
-  unfolding run_in
-  in-no b m s k {a} e h = sym (ap (λ (u : Bool). u && ltb b (run_start g d s k + run_length g d s k)) (le-ltb _ _ (rw e at h)))
-
-  pub in_rest : (b m s k : ℕ) {a n : ℕ} → a ≡ run_start g d s k → n ≡ run_length g d s k → a < b + m → ltb b (a + n) ≡ run_in g d b m s k
-  unfolding run_in
-  in_rest b m s k {a} {n} e f h =
-      ap (λ (j : ℕ). ltb b (j + n)) e ∙ ap (λ (j : ℕ). ltb b (run_start g d s k + j)) f
-      ∙ sym (ap (λ (u : Bool). u && ltb b (run_start g d s k + run_length g d s k)) (lt-ltb _ _ (rw e at h)))
 
   pub meet-of : (s k t l : ℕ) {b m : ℕ} → b ≡ run_start g d t l → m ≡ run_length g d t l → run_in g d b m s k ≡ runs_meet g d s k t l
   unfolding run_in runs_meet

@@ -1,7 +1,7 @@
 // The kinds of fault at one slot (02), but for those of its HIT byte and its name. What the walks come to is written down once for all slots.
 #![tactic(auto)]
 
-ghost use Rattle.std.specs.Prelude.{◌≡◌, true, false, not, [], ◌∷◌, ◌+◌, ◌-◌, ◌*◌, ◌<◌, ◌≤◌, length, get_or, set};
+ghost use Rattle.std.specs.Prelude.{◌≡◌, true, false, not, [], ◌∷◌, ◌+◌, ◌-◌, ◌*◌, ◌<◌, ◌≤◌, length, get_or, set, MatchOption};
 ghost use Rattle.meaning.specs.Lists.{count, every, some, each, has, any};
 ghost use Rattle.meaning.specs.Layout.{granules, taken, slots};
 ghost use Rattle.meaning.specs.Entries.{runs, entry_granules, extension};
@@ -22,10 +22,7 @@ fn pair_holds(image: &[u8], g: Geometry, s: usize, n: usize, k: usize) -> bool
     requires { Room g image.now × Slot g image.now s × (n ≡ runs g image.now s) × (k < 4) }
     ensures { result ≡ pair_holds g image.now s k }
 {
-    if k < n {
-        return true;
-    }
-    layout::field(image, g, s, layout::BLOCKS + 2 * k) == layout::ENDS
+    k < n || layout::field(image, g, s, layout::BLOCKS + 2 * k) == layout::ENDS
 }
 
 // After an FFH block every later pair starts with FFH.
@@ -42,13 +39,9 @@ fn used_extension(image: &[u8], g: Geometry, x: usize) -> bool
     requires { Room g image.now }
     ensures { result ≡ used_extension g image.now x }
 {
-    if !layout::is_slot(image, g, x) {
-        return false;
-    }
-    if !layout::flag(image, g, x, layout::IN_USE) {
-        return false;
-    }
-    layout::flag(image, g, x, layout::EXTENSION)
+    layout::is_slot(image, g, x)
+        && layout::flag(image, g, x, layout::IN_USE)
+        && layout::flag(image, g, x, layout::EXTENSION)
 }
 
 // Whether an entry hands on to the next of its chain.
@@ -56,17 +49,10 @@ fn hands_on(image: &[u8], g: Geometry, s: usize) -> bool
     requires { Room g image.now × Slot g image.now s }
     ensures { result ≡ hands_on g image.now s }
 {
-    if layout::field(image, g, s, layout::MARKER) != layout::HANDS_ON {
-        return false;
-    }
-    if layout::runs(image, g, s) != 4 {
-        return false;
-    }
-    let x = layout::field(image, g, s, layout::LINK);
-    if !used_extension(image, g, x) {
-        return false;
-    }
-    pairs_hold(image, g, s)
+    layout::field(image, g, s, layout::MARKER) == layout::HANDS_ON
+        && layout::runs(image, g, s) == 4
+        && used_extension(image, g, layout::field(image, g, s, layout::LINK))
+        && pairs_hold(image, g, s)
 }
 
 // Whether an entry is the last of its chain.
@@ -74,10 +60,7 @@ fn ends(image: &[u8], g: Geometry, s: usize) -> bool
     requires { Room g image.now × Slot g image.now s }
     ensures { result ≡ ends g image.now s }
 {
-    if layout::field(image, g, s, layout::MARKER) != layout::ENDS {
-        return false;
-    }
-    pairs_hold(image, g, s)
+    layout::field(image, g, s, layout::MARKER) == layout::ENDS && pairs_hold(image, g, s)
 }
 
 // Whether an entry has a bad marker, pairs or link.
@@ -85,10 +68,7 @@ fn bad_entry(image: &[u8], g: Geometry, s: usize) -> bool
     requires { Room g image.now × Slot g image.now s }
     ensures { result ≡ bad_entry g image.now s }
 {
-    if ends(image, g, s) {
-        return false;
-    }
-    !hands_on(image, g, s)
+    !ends(image, g, s) && !hands_on(image, g, s)
 }
 
 // How many slots the directory has.
@@ -131,13 +111,9 @@ fn note_file(image: &[u8], g: Geometry, p: usize, n: usize, files: &mut [u8; 256
     requires { Room g image.now × (p < 256) × (n ≡ length (slots g image.now)) × WalkNoted g image.now p files.old }
     ensures { WalkNoted g image.now (p + 1) files.new }
 {
-    if !layout::is_slot(image, g, p) {
-        return;
+    if layout::is_slot(image, g, p) && layout::primary(image, g, p) {
+        note_walk(image, g, p, n, files);
     }
-    if !layout::primary(image, g, p) {
-        return;
-    }
-    note_walk(image, g, p, n, files)
 }
 
 // For each slot the first file whose walk meets it: its number plus 1, or 0 where there is none.
@@ -151,16 +127,12 @@ pub fn note_files(image: &[u8], g: Geometry, files: &mut [u8; 256])
     }
 }
 
-// The first file whose walk meets x; 256 where there is none.
-fn first_file(image: &[u8], g: Geometry, files: &[u8], x: usize) -> usize
+// The first file whose walk meets x.
+fn first_file(image: &[u8], g: Geometry, files: &[u8], x: usize) -> Option<usize>
     requires { FileNoted g image.now files.now × (x < 256) }
-    ensures { result ≡ first_file g image.now x }
+    ensures { MatchOption result (first_file g image.now x ≡ 256) (λ p. (p ≡ first_file g image.now x) × (p < 256)) }
 {
-    let f = layout::wide(files[x]);
-    if f == 0 {
-        return 256;
-    }
-    f - 1
+    usize::from(files[x]).checked_sub(1)
 }
 
 // Whether some file's walk meets x.
@@ -168,7 +140,7 @@ fn walked(image: &[u8], g: Geometry, files: &[u8], x: usize) -> bool
     requires { FileNoted g image.now files.now × (x < 256) }
     ensures { result ≡ has (walked g image.now) x }
 {
-    first_file(image, g, files, x) < 256
+    first_file(image, g, files, x).is_some()
 }
 
 // The file that an entry in use belongs to; s itself where no walk meets it.
@@ -176,11 +148,7 @@ pub fn file_of(image: &[u8], g: Geometry, files: &[u8], s: usize) -> usize
     requires { FileNoted g image.now files.now × Slot g image.now s }
     ensures { (result ≡ file_of g image.now s) × Slot g image.now result }
 {
-    let p = first_file(image, g, files, s);
-    if p < 256 {
-        return p;
-    }
-    s
+    first_file(image, g, files, s).unwrap_or(s)
 }
 
 // 1 where x, which a walk comes to from b, follows it, 2 where it does not.
@@ -188,10 +156,11 @@ fn tally(image: &[u8], g: Geometry, x: usize, b: usize) -> usize
     requires { Room g image.now × (leads g image.now x b ≡ true) }
     ensures { (result ≡ tally g image.now x b) × (1 ≤ result) × (result ≤ 2) }
 {
-    if !entry::follows(image, g, 0x90, b, x) {
-        return 2;
+    if entry::follows(image, g, 0x90, b, x) {
+        1
+    } else {
+        2
     }
-    1
 }
 
 // For slot x: t, or 2 where something is told of it already.
@@ -199,11 +168,7 @@ fn tell(goods: &mut [u8; 256], x: usize, t: usize)
     requires { (x < 256) × (t < 256) }
     ensures { goods.new ≡ set goods.old x (again (get_or goods.old x 0) t) }
 {
-    if goods[x] == 0 {
-        goods[x] = t as u8;
-        return;
-    }
-    goods[x] = 2;
+    goods[x] = if goods[x] == 0 { t as u8 } else { 2 };
 }
 
 // Slot b, after all slots below it: what a walk comes to from there.
@@ -211,18 +176,11 @@ fn tell_from(image: &[u8], g: Geometry, files: &[u8], b: usize, goods: &mut [u8;
     requires { Room g image.now × FileNoted g image.now files.now × (b < 256) × Leading g image.now b goods.old }
     ensures { Leading g image.now (b + 1) goods.new }
 {
-    if !layout::is_slot(image, g, b) {
-        return;
+    if layout::is_slot(image, g, b) && hands_on(image, g, b) && walked(image, g, files, b) {
+        let x = layout::field(image, g, b, layout::LINK);
+        let t = tally(image, g, x, b);
+        tell(goods, x, t);
     }
-    if !hands_on(image, g, b) {
-        return;
-    }
-    if !walked(image, g, files, b) {
-        return;
-    }
-    let x = layout::field(image, g, b, layout::LINK);
-    let t = tally(image, g, x, b);
-    tell(goods, x, t)
 }
 
 // For each slot 1 where an extension there is met in some file's chain, not twice, and well formed.
@@ -250,23 +208,15 @@ pub fn linked(image: &[u8], g: Geometry, goods: &[u8], s: usize) -> bool
     requires { Room g image.now × Slot g image.now s × Told g image.now goods.now }
     ensures { result ≡ any (not (extension g image.now s) ∷ good_extension g image.now s ∷ []) }
 {
-    if !layout::flag(image, g, s, layout::EXTENSION) {
-        return true;
-    }
-    good_extension(image, g, goods, s)
+    !layout::flag(image, g, s, layout::EXTENSION) || good_extension(image, g, goods, s)
 }
 
 pub fn chain_fault(image: &[u8], g: Geometry, goods: &[u8], s: usize) -> bool
     requires { Room g image.now × Slot g image.now s × Told g image.now goods.now }
     ensures { result ≡ chain_fault g image.now s }
 {
-    if !layout::flag(image, g, s, layout::IN_USE) {
-        return false;
-    }
-    if bad_entry(image, g, s) {
-        return true;
-    }
-    !linked(image, g, goods, s)
+    layout::flag(image, g, s, layout::IN_USE)
+        && (bad_entry(image, g, s) || !linked(image, g, goods, s))
 }
 
 // Runs ------------------------------------------------------------------------------------------------------------------
@@ -276,10 +226,9 @@ fn run_holds(image: &[u8], g: Geometry, s: usize, k: usize) -> bool
     requires { Room g image.now × Slot g image.now s × (k < 4) }
     ensures { result ≡ run_holds g image.now s k }
 {
-    if g.units <= layout::field(image, g, s, layout::SECONDS + 2 * k) / 32 {
-        return false;
-    }
-    layout::run_start(image, g, s, k) + layout::run_length(image, g, s, k) <= layout::granules(g)
+    layout::field(image, g, s, layout::SECONDS + 2 * k) / 32 < g.units
+        && layout::run_start(image, g, s, k) + layout::run_length(image, g, s, k)
+            <= layout::granules(g)
 }
 
 fn runs_hold(image: &[u8], g: Geometry, s: usize) -> bool
@@ -294,10 +243,7 @@ pub fn run_fault(image: &[u8], g: Geometry, s: usize) -> bool
     requires { Room g image.now × Slot g image.now s }
     ensures { result ≡ run_fault g image.now s }
 {
-    if !layout::flag(image, g, s, layout::IN_USE) {
-        return false;
-    }
-    !runs_hold(image, g, s)
+    layout::flag(image, g, s, layout::IN_USE) && !runs_hold(image, g, s)
 }
 
 // Whether the GAT bits of n granules from a on are set.
@@ -328,10 +274,7 @@ pub fn gat_fault(image: &[u8], g: Geometry, s: usize) -> bool
     requires { Room g image.now × Slot g image.now s × (run_fault g image.now s ≡ false) }
     ensures { result ≡ gat_fault g image.now s }
 {
-    if !layout::flag(image, g, s, layout::IN_USE) {
-        return false;
-    }
-    !gat_holds(image, g, s)
+    layout::flag(image, g, s, layout::IN_USE) && !gat_holds(image, g, s)
 }
 
 // Shared granules -------------------------------------------------------------------------------------------------------
@@ -342,10 +285,7 @@ fn run_in(image: &[u8], g: Geometry, s: usize, k: usize, b: usize, m: usize) -> 
     ensures { result ≡ run_in g image.now b m s k }
 {
     let a = layout::run_start(image, g, s, k);
-    if b + m <= a {
-        return false;
-    }
-    b < a + layout::run_length(image, g, s, k)
+    a < b + m && b < a + layout::run_length(image, g, s, k)
 }
 
 // Whether an entry has a granule among the m from b on.
@@ -390,10 +330,7 @@ fn earlier(image: &[u8], g: Geometry, s: usize, k: usize, l: usize) -> bool
     requires { Room g image.now × Slot g image.now s × (k < 4) × (l < 4) }
     ensures { result ≡ earlier g image.now s k l }
 {
-    if k <= l {
-        return false;
-    }
-    runs_meet(image, g, s, k, s, l)
+    l < k && runs_meet(image, g, s, k, s, l)
 }
 
 // Whether run k has a granule in common with an earlier run of its entry.
@@ -419,13 +356,9 @@ fn shares(image: &[u8], g: Geometry, s: usize, t: usize) -> bool
     requires { Room g image.now × Slot g image.now s }
     ensures { result ≡ shares g image.now s t }
 {
-    if !layout::is_slot(image, g, t) {
-        return false;
-    }
-    if !layout::flag(image, g, t, layout::IN_USE) {
-        return false;
-    }
-    entries_meet(image, g, s, t)
+    layout::is_slot(image, g, t)
+        && layout::flag(image, g, t, layout::IN_USE)
+        && entries_meet(image, g, s, t)
 }
 
 // Whether an entry in a lower slot has a granule of that of s.
@@ -440,13 +373,7 @@ pub fn shared_fault(image: &[u8], g: Geometry, s: usize) -> bool
     requires { Room g image.now × Slot g image.now s }
     ensures { result ≡ shared_fault g image.now s }
 {
-    if !layout::flag(image, g, s, layout::IN_USE) {
-        return false;
-    }
-    if twice(image, g, s) {
-        return true;
-    }
-    shared_below(image, g, s)
+    layout::flag(image, g, s, layout::IN_USE) && (twice(image, g, s) || shared_below(image, g, s))
 }
 
 // Size ------------------------------------------------------------------------------------------------------------------
@@ -499,14 +426,8 @@ pub fn size_fault(image: &[u8], g: Geometry, goods: &[u8], p: usize) -> bool
     requires { Room g image.now × Slot g image.now p × Told g image.now goods.now }
     ensures { result ≡ size_fault g image.now p }
 {
-    if !layout::primary(image, g, p) {
-        return false;
-    }
     let n = slots(image, g);
-    if !whole_from(image, g, goods, p, n) {
-        return false;
-    }
-    !size_holds(image, g, p, n)
+    layout::primary(image, g, p) && whole_from(image, g, goods, p, n) && !size_holds(image, g, p, n)
 }
 
 // Directory -------------------------------------------------------------------------------------------------------------
@@ -515,14 +436,10 @@ pub fn directory_fault(image: &[u8], g: Geometry, files: &[u8], s: usize) -> boo
     requires { Room g image.now × Slot g image.now s × FileNoted g image.now files.now }
     ensures { result ≡ directory_fault g image.now s }
 {
-    if !layout::flag(image, g, s, layout::IN_USE) {
-        return false;
-    }
     let p = file_of(image, g, files, s);
-    if layout::flag(image, g, p, layout::SYSTEM) {
-        return false;
-    }
     let b = g.start / layout::granule_sectors(g);
     let m = layout::directory_granules(image, g);
-    entry_in(image, g, s, b, m)
+    layout::flag(image, g, s, layout::IN_USE)
+        && !layout::flag(image, g, p, layout::SYSTEM)
+        && entry_in(image, g, s, b, m)
 }

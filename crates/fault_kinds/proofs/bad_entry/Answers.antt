@@ -1,13 +1,15 @@
-use Rattle.fault_kinds.proofs.Passes.{so, not_so, bad-ends, bad-hands}
+use Rattle.std.proofs.Common.{rules, arith}
+use Rattle.std.proofs.lemmas.Grind.{common_steps}
+use Rattle.meaning.specs.Lists.{all, any}
+use Rattle.layout.proofs.HasRoom.{slot-of}
+use Rattle.lists.specs.Tests.{is-false, is-true}
 use Rattle.meaning.specs.Fault.{bad_entry}
-use mathlib.Core.Bool.{not}
-use mathlib.Core.Path.{ap, ◌∙◌}
 use Rattle.fault_kinds.proofs.bad_entry.Goals as goal
 
-pub returns-then-ends : goal.returns-then-ends
-unfolding bad_entry
-returns-then-ends c = bad-ends _ _ (so c.ends.ensures c.if-ends.true)
+pub returns-then-not-ends : goal.returns-then-not-ends
+unfolding bad_entry all any
+returns-then-not-ends c = grind (arith, common_steps)
 
-pub returns : goal.returns
-unfolding bad_entry
-returns c = ap not c.hands_on.ensures ∙ bad-hands _ _ (not_so c.ends.ensures c.if-ends.false)
+pub returns-else-not-ends : goal.returns-else-not-ends
+unfolding bad_entry all any
+returns-else-not-ends c = grind (arith, common_steps)

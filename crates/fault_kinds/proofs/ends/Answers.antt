@@ -1,13 +1,15 @@
-use Rattle.fault_kinds.proofs.Passes.{hands-no, ends-first}
-use Rattle.lists.specs.Tests.{on, off}
+use Rattle.std.proofs.Common.{rules, arith}
+use Rattle.std.proofs.lemmas.Grind.{common_steps}
+use Rattle.meaning.specs.Lists.{all, any}
+use Rattle.layout.proofs.HasRoom.{slot-of}
+use Rattle.lists.specs.Tests.{is-false, is-true}
 use Rattle.meaning.specs.Fault.{ends}
-use mathlib.Core.Path.{◌∙◌}
 use Rattle.fault_kinds.proofs.ends.Goals as goal
 
-pub returns-then-field-ne-ENDS : goal.returns-then-field-ne-ENDS
-unfolding ends
-returns-then-field-ne-ENDS c = hands-no _ _ (off c.field.ensures.is c.if-field-ne-ENDS.true)
+pub returns-then-field-eq-ENDS : goal.returns-then-field-eq-ENDS
+unfolding ends all any
+returns-then-field-eq-ENDS c = grind (arith, common_steps)
 
-pub returns : goal.returns
-unfolding ends
-returns c = c.pairs_hold.ensures ∙ ends-first _ (on c.field.ensures.is c.if-field-ne-ENDS.false)
+pub returns-else-field-eq-ENDS : goal.returns-else-field-eq-ENDS
+unfolding ends all any
+returns-else-field-eq-ENDS c = grind (arith, common_steps)

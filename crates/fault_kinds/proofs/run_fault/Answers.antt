@@ -1,13 +1,15 @@
-use Rattle.lists.specs.Tests.{all-no, all_yes, all_one, is-false, is-true}
+use Rattle.std.proofs.Common.{rules, arith}
+use Rattle.std.proofs.lemmas.Grind.{common_steps}
+use Rattle.meaning.specs.Lists.{all, any}
+use Rattle.layout.proofs.HasRoom.{slot-of}
+use Rattle.lists.specs.Tests.{is-false, is-true}
 use Rattle.meaning.specs.Fault.{run_fault}
-use mathlib.Core.Bool.{not}
-use mathlib.Core.Path.{sym, ap, ◌∙◌}
 use Rattle.fault_kinds.proofs.run_fault.Goals as goal
 
-pub returns-then-not-flag : goal.returns-then-not-flag
-unfolding run_fault
-returns-then-not-flag c = sym (all-no (is-false c.flag.ensures c.if-not-flag.true) _)
+pub returns-then-flag : goal.returns-then-flag
+unfolding run_fault all any
+returns-then-flag c = grind (arith, common_steps)
 
-pub returns : goal.returns
-unfolding run_fault
-returns c = ap not c.runs_hold.ensures ∙ sym (all_yes (is-true c.flag.ensures c.if-not-flag.false) _ ∙ all_one _)
+pub returns-else-flag : goal.returns-else-flag
+unfolding run_fault all any
+returns-else-flag c = grind (arith, common_steps)

@@ -1,8 +1,15 @@
-use Rattle.fault_kinds.proofs.Passes.{in-no, in_rest}
+use Rattle.std.proofs.Common.{rules, arith}
+use Rattle.std.proofs.lemmas.Grind.{common_steps}
+use Rattle.meaning.specs.Lists.{all, any}
+use Rattle.layout.proofs.HasRoom.{slot-of}
+use Rattle.lists.specs.Tests.{is-false, is-true}
+use Rattle.fault_kinds.specs.Tests.{run_in}
 use Rattle.fault_kinds.proofs.run_in.Goals as goal
 
-pub returns-then-b-m : goal.returns-then-b-m
-returns-then-b-m c = in-no _ _ _ _ _ _ c.run_start-a.ensures.is c.if-b-m.true
+pub returns-then-a-b : goal.returns-then-a-b
+unfolding run_in all any
+returns-then-a-b c = grind (arith, common_steps)
 
-pub returns : goal.returns
-returns c = in_rest _ _ _ _ _ _ c.run_start-a.ensures.is c.run_length.ensures.is c.if-b-m.false
+pub returns-else-a-b : goal.returns-else-a-b
+unfolding run_in all any
+returns-else-a-b c = grind (arith, common_steps)

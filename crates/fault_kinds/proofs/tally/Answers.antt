@@ -1,13 +1,15 @@
-use native.Mathlib.Omega.{arith}
-use Rattle.meaning.specs.Consistent.{follows_by}
+use Rattle.std.proofs.Common.{rules, arith}
+use Rattle.std.proofs.lemmas.Grind.{common_steps}
+use Rattle.meaning.specs.Lists.{all, any}
+use Rattle.layout.proofs.HasRoom.{slot-of}
 use Rattle.lists.specs.Tests.{is-false, is-true}
-use Rattle.fault_kinds.proofs.Passes.{tally-bad, tally-good}
+use Rattle.fault_kinds.specs.Tests.{tally}
 use Rattle.fault_kinds.proofs.tally.Goals as goal
 
-pub returns-then-not-follows : goal.returns-then-not-follows
-unfolding follows_by
-returns-then-not-follows c = (tally-bad _ _ _ _ c.requires.1 (is-false c.follows.ensures c.if-not-follows.true), omega arith, omega arith)
+pub returns-then-follows : goal.returns-then-follows
+unfolding tally all any
+returns-then-follows c = grind (arith, common_steps)
 
-pub returns : goal.returns
-unfolding follows_by
-returns c = (tally-good _ _ _ _ c.requires.1 (is-true c.follows.ensures c.if-not-follows.false), omega arith, omega arith)
+pub returns-else-follows : goal.returns-else-follows
+unfolding tally all any
+returns-else-follows c = grind (arith, common_steps)

@@ -1,32 +1,22 @@
-use native.Mathlib.Omega.{arith}
+use Rattle.std.proofs.Common.{rules, arith, ◌≡◌, true, false, ◌∙◌, sym, ap}
+use Rattle.std.proofs.lemmas.Grind.{common_steps}
+use Rattle.meaning.specs.Lists.{all, any}
 use Rattle.layout.proofs.HasRoom.{slot-of}
-use Rattle.lists.specs.Tests.{all-no, all_yes, all_one, is-false, is-true}
+use Rattle.lists.specs.Tests.{is-false, is-true}
 use Rattle.meaning.specs.Fault.{used_extension}
-use mathlib.Core.Path.{sym, ◌∙◌}
+use Rattle.meaning.specs.Layout.{is_slot}
 use Rattle.fault_kinds.proofs.used_extension.Goals as goal
 
-pub returns-then-not-is_slot : goal.returns-then-not-is_slot
-unfolding used_extension
-returns-then-not-is_slot c = sym (all-no (is-false c.is_slot.ensures c.if-not-is_slot.true) _)
-
 pub flag-requires : goal.flag-requires
-flag-requires c = (c.requires, slot-of _ _ _ (is-true c.is_slot.ensures c.if-not-is_slot.false), omega arith)
+flag-requires c = (c.requires, slot-of _ _ _ (is-true c.is_slot.ensures c.if-is_slot.true), omega arith)
 
-pub returns-then-not-flag : goal.returns-then-not-flag
-unfolding used_extension
-returns-then-not-flag c = sym (all_yes (is-true c.is_slot.ensures c.if-not-is_slot.false) _ ∙ all-no
-    (is-false c.flag.ensures c.if-not-flag.true) _)
+pub flag-requires-then-flag : goal.flag-requires-then-flag
+flag-requires-then-flag c = let a = c.args in let t : is_slot a.g a.image.now a.x ≡ true = grind (arith, common_steps) in (c.requires, slot-of _ _ _ t, omega arith)
 
-pub flag-requires-2 : goal.flag-requires-2
-flag-requires-2 c = (
-  c.requires,
-  slot-of _ _ _
-      (is-true c.is_slot.ensures c.if-not-is_slot.false),
-  omega arith,
-)
+pub returns-then-flag : goal.returns-then-flag
+unfolding used_extension all any
+returns-then-flag c = grind (arith, common_steps)
 
-pub returns : goal.returns
-unfolding used_extension
-returns c = let if1 = c.if-not-is_slot in let is-slot = c.is_slot in
-    c.flag-2.ensures ∙ sym (all_yes (is-true is-slot.ensures if1.false) _ ∙ all_yes (is-true c.flag.ensures c.if-not-flag.false) _
-    ∙ all_one _)
+pub returns-else-flag : goal.returns-else-flag
+unfolding used_extension all any
+returns-else-flag c = grind (arith, common_steps)

@@ -1,8 +1,10 @@
-use Rattle.fault_kinds.proofs.Bridge.{walked-is}
-use lib.Dec.{ltb}
-use Prim.Native.Nat.{ℕ}
-use mathlib.Core.Path.{ap, ◌∙◌}
+use Rattle.std.proofs.Common.{rules, arith, ◌≡◌, true, false, ◌∙◌, sym, ap}
+use Rattle.std.proofs.lemmas.Grind.{common_steps}
+use Rattle.meaning.specs.Lists.{all, any}
+use Rattle.layout.proofs.HasRoom.{slot-of}
+use Rattle.lists.specs.Tests.{is-false, is-true}
+use Rattle.fault_kinds.proofs.Bridge.{walked_by}
 use Rattle.fault_kinds.proofs.walked.Goals as goal
 
 pub returns : goal.returns
-returns c = ap (λ (n : ℕ). ltb n 256) c.first_file.ensures ∙ walked-is _ _ c.args.x
+returns c = c.is_some.ensures ∙ walked_by c.args.g c.args.image.now c.args.x c.first_file.result c.first_file.ensures
