@@ -22,7 +22,9 @@ use Rattle.lists.specs.Members
 use Rattle.laws.specs.Facts
 use Rattle.laws.specs.Kinds
 use Rattle.fault_kinds.proofs.Passes.{count-more, count_none}
-use Rattle.fault_diagnosis.specs.Told.{same_file, fault_in, after_slots}
+use Rattle.fault_diagnosis.specs.Told.{same_file, fault_in, after_slots, number_of}
+use Rattle.fault_diagnosis.specs.declared.Kind.{Kind}
+use Rattle.fault_diagnosis.specs.declared.Kind.TheVariants.{Hit, Name, DuplicateName, Chain, Run, Gat, SharedGranule, Size, Directory}
 
 pub beq-off : (a b : Bool) → a ≡ true → not b ≡ beq (not a) b
 beq-off true true h = refl
@@ -33,6 +35,18 @@ pub beq-on : (a b : Bool) → a ≡ false → b ≡ beq (not a) b
 beq-on false true h = refl
 beq-on false false h = refl
 beq-on true b h = absurd (let z : ◌≡◌ {A = ℕ} 0 1 = cc in let q : ⊥ = omega arith in q)
+
+-- a kind's number is not 0
+pub some-number : (k : Kind) → 0 < number_of k
+some-number Hit = omega arith
+some-number Name = omega arith
+some-number DuplicateName = omega arith
+some-number Chain = omega arith
+some-number Run = omega arith
+some-number Gat = omega arith
+some-number SharedGranule = omega arith
+some-number Size = omega arith
+some-number Directory = omega arith
 
 module _ (g : Geometry) (d : List ℕ) where
   -- the same of a name that is another's

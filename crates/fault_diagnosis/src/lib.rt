@@ -12,7 +12,7 @@ ghost use Rattle.layout.specs.Room.{Room, Slot};
 ghost use Rattle.check_whole.specs.Slots.{FitsImage};
 ghost use Rattle.fault_clear.specs.Clear.{NamesClear, RunsClear};
 ghost use Rattle.fault_kinds.specs.Noted.{FileNoted, Told};
-ghost use Rattle.fault_diagnosis.specs.Told.{hash_differs, same_file, fault_in, after_slots};
+ghost use Rattle.fault_diagnosis.specs.Told.{hash_differs, same_file, fault_in, after_slots, number_of, number_told};
 
 use meaning::{Geometry, Refusal};
 
@@ -21,12 +21,7 @@ fn hit_holds(image: &[u8], g: Geometry, s: usize) -> bool
     requires { Room g image.now × Slot g image.now s }
     ensures { result ≡ hit_holds g image.now s }
 {
-    let h = layout::hit(image, g, s);
-    let used = layout::flag(image, g, s, layout::IN_USE);
-    if h == 0 {
-        return !used;
-    }
-    used
+    (layout::hit(image, g, s) != 0) == layout::flag(image, g, s, layout::IN_USE)
 }
 
 // Whether the HIT byte is not the hash of the name of the entry's file.
@@ -43,26 +38,17 @@ fn hit_fault(image: &[u8], g: Geometry, files: &[u8], goods: &[u8], s: usize) ->
     requires { Room g image.now × Slot g image.now s × FileNoted g image.now files.now × Told g image.now goods.now }
     ensures { result ≡ hit_fault g image.now s }
 {
-    if !hit_holds(image, g, s) {
-        return true;
-    }
-    if !layout::flag(image, g, s, layout::IN_USE) {
-        return false;
-    }
-    if !fault_kinds::linked(image, g, goods, s) {
-        return false;
-    }
-    hash_differs(image, g, files, s)
+    !hit_holds(image, g, s)
+        || layout::flag(image, g, s, layout::IN_USE)
+            && fault_kinds::linked(image, g, goods, s)
+            && hash_differs(image, g, files, s)
 }
 
 fn name_fault(image: &[u8], g: Geometry, p: usize) -> bool
     requires { Room g image.now × Slot g image.now p }
     ensures { result ≡ name_fault g image.now p }
 {
-    if !layout::primary(image, g, p) {
-        return false;
-    }
-    !entry::name_holds(image, g, p)
+    layout::primary(image, g, p) && !entry::name_holds(image, g, p)
 }
 
 // Whether a file of that name starts at slot q.
@@ -70,13 +56,9 @@ fn same_file(image: &[u8], g: Geometry, name: &[u8], q: usize) -> bool
     requires { Room g image.now × (length name.now ≡ 11) }
     ensures { result ≡ same_file g image.now name.now q }
 {
-    if !layout::is_slot(image, g, q) {
-        return false;
-    }
-    if !layout::primary(image, g, q) {
-        return false;
-    }
-    layout::same_name(image, layout::name_at(image, g, q), name)
+    layout::is_slot(image, g, q)
+        && layout::primary(image, g, q)
+        && layout::same_name(image, layout::name_at(image, g, q), name)
 }
 
 // Whether a file in a lower slot has the name of that at p.
@@ -85,14 +67,7 @@ fn name_below(image: &[u8], g: Geometry, p: usize) -> bool
     ensures { result ≡ some (same_file g image.now (name_of g image.now p)) (count 0 p) }
 {
     let name = entry::name_of(image, g, p);
-    let mut q = 0;
-    while q < p {
-        if same_file(image, g, &name, q) {
-            return true;
-        }
-        q += 1;
-    }
-    false
+    (0..p).any(|q| same_file(image, g, &name, q))
 }
 
 // Below slot `clear` there is none.
@@ -100,47 +75,43 @@ fn duplicate_fault(image: &[u8], g: Geometry, p: usize, clear: usize) -> bool
     requires { Room g image.now × Slot g image.now p × NamesClear g image.now clear }
     ensures { result ≡ duplicate_fault g image.now p }
 {
-    if p < clear {
-        return false;
-    }
-    if !layout::primary(image, g, p) {
-        return false;
-    }
-    name_below(image, g, p)
+    clear <= p && layout::primary(image, g, p) && name_below(image, g, p)
 }
 
-// The kinds of runs: below slot `clear` there is none of them.
-fn run_fault(image: &[u8], g: Geometry, s: usize, clear: usize) -> bool
-    requires { Room g image.now × Slot g image.now s × RunsClear g image.now clear }
-    ensures { result ≡ run_fault g image.now s }
-{
-    if s < clear {
-        return false;
-    }
-    fault_kinds::run_fault(image, g, s)
+// The kinds of fault at a slot, in 02's order.
+#[derive(Clone, Copy)]
+enum Kind {
+    Hit,
+    Name,
+    DuplicateName,
+    Chain,
+    Run,
+    Gat,
+    SharedGranule,
+    Size,
+    Directory,
 }
 
-fn gat_fault(image: &[u8], g: Geometry, s: usize, clear: usize) -> bool
-    requires { Room g image.now × Slot g image.now s × RunsClear g image.now clear × (run_fault g image.now s ≡ false) }
-    ensures { result ≡ gat_fault g image.now s }
-{
-    if s < clear {
-        return false;
+impl Kind {
+    // The number that a refusal tells.
+    fn number(self) -> u8
+        ensures { result ≡ number_of self }
+    {
+        match self {
+            Kind::Hit => 22,
+            Kind::Name => 23,
+            Kind::DuplicateName => 24,
+            Kind::Chain => 25,
+            Kind::Run => 26,
+            Kind::Gat => 27,
+            Kind::SharedGranule => 28,
+            Kind::Size => 29,
+            Kind::Directory => 30,
+        }
     }
-    fault_kinds::gat_fault(image, g, s)
 }
 
-fn shared_fault(image: &[u8], g: Geometry, s: usize, clear: usize) -> bool
-    requires { Room g image.now × Slot g image.now s × RunsClear g image.now clear }
-    ensures { result ≡ shared_fault g image.now s }
-{
-    if s < clear {
-        return false;
-    }
-    fault_kinds::shared_fault(image, g, s)
-}
-
-// The first kind at a slot, in 02's order; 0 where there is none. Slots below `names` are clear of duplicate names, those below `runs` of the
+// The first kind at a slot. Slots below `names` are clear of duplicate names, those below `runs` of the
 // kinds of runs.
 fn fault_at(
     image: &[u8],
@@ -150,42 +121,42 @@ fn fault_at(
     s: usize,
     names: usize,
     runs: usize,
-) -> u8
+) -> Option<Kind>
     requires { Room g image.now × Slot g image.now s × NamesClear g image.now names × RunsClear g image.now runs
         × FileNoted g image.now files.now × Told g image.now goods.now }
-    ensures { result ≡ fault_at g image.now s }
+    ensures { number_told result ≡ fault_at g image.now s }
 {
     if hit_fault(image, g, files, goods, s) {
-        return 22;
+        return Some(Kind::Hit);
     }
     if name_fault(image, g, s) {
-        return 23;
+        return Some(Kind::Name);
     }
     if duplicate_fault(image, g, s, names) {
-        return 24;
+        return Some(Kind::DuplicateName);
     }
     if fault_kinds::chain_fault(image, g, goods, s) {
-        return 25;
+        return Some(Kind::Chain);
     }
-    if run_fault(image, g, s, runs) {
-        return 26;
+    if runs <= s && fault_kinds::run_fault(image, g, s) {
+        return Some(Kind::Run);
     }
-    if gat_fault(image, g, s, runs) {
-        return 27;
+    if runs <= s && fault_kinds::gat_fault(image, g, s) {
+        return Some(Kind::Gat);
     }
-    if shared_fault(image, g, s, runs) {
-        return 28;
+    if runs <= s && fault_kinds::shared_fault(image, g, s) {
+        return Some(Kind::SharedGranule);
     }
     if fault_kinds::size_fault(image, g, goods, s) {
-        return 29;
+        return Some(Kind::Size);
     }
     if fault_kinds::directory_fault(image, g, files, s) {
-        return 30;
+        return Some(Kind::Directory);
     }
-    0
+    None
 }
 
-// The same, 0 where the directory has no slot s.
+// The same, and none where the directory has no slot s.
 fn fault_in(
     image: &[u8],
     g: Geometry,
@@ -194,13 +165,13 @@ fn fault_in(
     s: usize,
     names: usize,
     runs: usize,
-) -> u8
+) -> Option<Kind>
     requires { Room g image.now × NamesClear g image.now names × RunsClear g image.now runs
         × FileNoted g image.now files.now × Told g image.now goods.now }
-    ensures { result ≡ fault_in g image.now s }
+    ensures { number_told result ≡ fault_in g image.now s }
 {
     if !layout::is_slot(image, g, s) {
-        return 0;
+        return None;
     }
     fault_at(image, g, files, goods, s, names, runs)
 }
@@ -212,10 +183,11 @@ fn after_slots(image: &[u8], g: Geometry) -> Refusal
 {
     let a = g.start / layout::granule_sectors(g);
     let n = layout::directory_granules(image, g);
-    if !fault_kinds::all_taken(image, g, a, n) {
-        return refusal::unplaced(30);
+    if fault_kinds::all_taken(image, g, a, n) {
+        refusal::unplaced(0)
+    } else {
+        refusal::unplaced(Kind::Directory.number())
     }
-    refusal::unplaced(0)
 }
 
 // The lowest slot at fault, and what is told after the slots.
@@ -229,17 +201,14 @@ fn slots_fault(image: &[u8], g: Geometry) -> Refusal
     fault_kinds::note_files(image, g, &mut files);
     let mut goods = [0u8; 256];
     fault_kinds::note_goods(image, g, &files, &mut goods);
-    let mut s = 0;
-    while s < 256 {
-        let n = fault_in(image, g, &files, &goods, s, names, runs);
-        if n != 0 {
+    for s in 0..256 {
+        if let Some(kind) = fault_in(image, g, &files, &goods, s, names, runs) {
             return Refusal {
-                number: n,
+                number: kind.number(),
                 image: 0,
                 at: s,
             };
         }
-        s += 1;
     }
     after_slots(image, g)
 }

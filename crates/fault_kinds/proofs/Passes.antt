@@ -1,13 +1,13 @@
 -- Passes over places, over slots, and along a walk.
 use mathlib.Core.Path.{◌≡◌, refl, sym, ap, ◌∙◌}
 use mathlib.Core.List.{List, [], ◌∷◌}
-use mathlib.Core.Bool.{Bool, true, false, not, cond, ◌&&◌, ◌||◌}
+use mathlib.Core.Bool.{Bool, true, false, not, cond, ◌&&◌}
 use Prim.Native.Nat.{ℕ, suc, ◌+◌, ◌-◌, ◌≤◌, ◌<◌}
 use native.Mathlib.Omega.{arith}
-use lib.Dec.{eqb, ltb}
+use lib.Dec.{eqb}
 use lib.ListN.{length, length-append}
-use borrow.Author.Tests.{lt-ltb, le-ltb, not-false}
-use Rattle.meaning.specs.Lists.{count, every, some, each, keep, all, any}
+use borrow.Author.Tests.{not-false}
+use Rattle.meaning.specs.Lists.{count, every, each, keep, all}
 use Rattle.meaning.specs.Layout.{taken}
 use Rattle.meaning.specs.Entries.{in_use, runs, link, run_start, run_length, run_granules, entry_granules}
 use Rattle.meaning.specs.Consistent.{follows_by, runs_hold, gat_holds}

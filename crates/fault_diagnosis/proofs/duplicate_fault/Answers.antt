@@ -1,17 +1,20 @@
-use mathlib.Core.Path.{sym, ◌∙◌}
+use Rattle.fault_diagnosis.proofs.duplicate_fault.Goals.{then-clear-p, else-clear-p}
+use Rattle.lists.specs.Tests.{all-no}
+use Rattle.std.proofs.Common.{arith, ◌∙◌, sym}
+use Rattle.std.proofs.lemmas.Grind.{common_steps}
+use Rattle.meaning.specs.Lists.{all, any}
+use Rattle.lists.specs.Tests.{is-false}
 use Rattle.meaning.specs.Fault.{duplicate_fault}
-use Rattle.lists.specs.Tests.{all-no, all_yes, all_one, is-false, is-true}
 use Rattle.fault_diagnosis.proofs.AllSlots.{below-is}
 use Rattle.fault_diagnosis.proofs.duplicate_fault.Goals as goal
 
-pub returns-then-p-clear : goal.returns-then-p-clear
-returns-then-p-clear c = sym (c.requires.2.name c.args.p c.if-p-clear.true c.requires.1)
+pub returns-then-primary : goal.returns-then-primary
+unfolding duplicate_fault all any
+returns-then-primary c = let a = c.args in grind (arith, common_steps, below-is a.g a.image.now a.p c.requires.1.low)
 
-pub returns-then-not-primary : goal.returns-then-not-primary
+pub returns-else-primary : goal.returns-else-primary
 unfolding duplicate_fault
-returns-then-not-primary c = sym (all-no (is-false c.primary.ensures c.if-not-primary.true) _)
-
-pub returns : goal.returns
-unfolding duplicate_fault
-returns c = let a = c.args in c.name_below.ensures ∙ sym (all_yes (is-true c.primary.ensures c.if-not-primary.false) _ ∙ all_one _ ∙ below-is a.g
-    a.image.now a.p c.requires.1.low)
+returns-else-primary c = elim c.if-clear-p.branch [
+  | then-clear-p w ↦ c.if-primary.false ∙ sym (all-no (is-false w.primary.ensures (sym w.value-is ∙ c.if-primary.false)) _)
+  | else-clear-p w ↦ c.if-primary.false ∙ sym (c.requires.2.name c.args.p (omega arith) c.requires.1)
+]

@@ -1,8 +1,9 @@
+use mathlib.Core.Path.{refl}
 use Rattle.fault_kinds.proofs.Noting.{walking_start, leading-start}
 use mathlib.Core.Path.{◌∙◌}
 use native.Mathlib.Omega.{arith}
 use Rattle.fault_diagnosis.specs.Told.{after_slots}
-use Rattle.fault_diagnosis.proofs.AllSlots.{all_slots, slot-found, slot-clear, slots-done}
+use Rattle.fault_diagnosis.proofs.AllSlots.{all_slots, slot-found, slot-clear, slots-done, some-number}
 use Rattle.fault_diagnosis.proofs.slots_fault.Goals as goal
 
 pub note_files-requires : goal.note_files-requires
@@ -14,18 +15,15 @@ note_goods-requires c = let p = c.requires in (p, c.note_files.ensures, leading-
 pub loop-s-init : goal.loop-s-init
 loop-s-init c = let a = c.args in all_slots a.g a.image.now (after_slots a.g a.image.now)
 
-pub fault_in-n-requires : goal.fault_in-n-requires
-fault_in-n-requires c = let note-goods = c.note_goods in let note-files = c.note_files in let runs-clear = c.runs_clear-runs in
+pub fault_in-requires : goal.fault_in-requires
+fault_in-requires c = let note-goods = c.note_goods in let note-files = c.note_files in let runs-clear = c.runs_clear-runs in
     let names-clear = c.names_clear-names in let p = c.requires in (p, names-clear.ensures, runs-clear.ensures, note-files.ensures, note-goods.ensures)
 
-pub returns-then-n-ne0 : goal.returns-then-n-ne0
-returns-then-n-ne0 c = let loop-test = c.loop-s-test in let l = c.loop-s in slot-found _ _ _ _ _ l.invariant c.fault_in-n.ensures loop-test.true c.if-n-ne0.true
-
-pub loop-s-smaller : goal.loop-s-smaller
-loop-s-smaller c = omega arith
+pub returns-in-Some : goal.returns-in-Some
+returns-in-Some c = slot-found _ _ _ _ _ c.loop-s.invariant (c.number.ensures ∙ c.in-Some.ensures) c.loop-s-test.true (λ z. let k = some-number c.in-Some.kind in let e = c.number.ensures in omega (arith, z, k, e))
 
 pub loop-s-preserved : goal.loop-s-preserved
-loop-s-preserved c = let loop-test = c.loop-s-test in let l = c.loop-s in slot-clear _ _ _ _ _ l.invariant c.fault_in-n.ensures loop-test.true c.if-n-ne0.false
+loop-s-preserved c = slot-clear _ _ _ _ 0 c.loop-s.invariant c.in_default.ensures c.loop-s-test.true refl
 
 pub returns : goal.returns
 returns c = c.after_slots.ensures ∙ slots-done _ _ _ _ c.loop-s.invariant c.loop-s-test.false

@@ -9,6 +9,3 @@ use Rattle.fault_diagnosis.proofs.slots_fault.Given as goal
 abbrev pub invariant-loop-s : goal.invariant-loop-s
 invariant-loop-s l = lowest l.g l.image (after_slots l.g l.image) (slots l.g l.image) ≡ lowest l.g l.image (after_slots l.g l.image)
     (keep (is_slot l.g l.image) (count l.s (256 - l.s)))
-
-abbrev pub decreases-loop-s : goal.decreases-loop-s
-decreases-loop-s l = 256 - l.s

@@ -1,11 +1,9 @@
 use Rattle.fault_kinds.proofs.Bridge.{directory-by}
 use Rattle.meaning.specs.Entries.{system}
 use Rattle.std.proofs.Common.{refl, ◌/◌}
-use Rattle.std.proofs.Common.{rules, arith, ◌≡◌, true, false, ◌∙◌, sym, ap}
+use Rattle.std.proofs.Common.{arith, ap}
 use Rattle.std.proofs.lemmas.Grind.{common_steps}
 use Rattle.meaning.specs.Lists.{all, any}
-use Rattle.layout.proofs.HasRoom.{slot-of}
-use Rattle.lists.specs.Tests.{is-false, is-true}
 use Rattle.meaning.specs.Fault.{directory_fault}
 use Rattle.fault_kinds.proofs.directory_fault.Goals as goal
 

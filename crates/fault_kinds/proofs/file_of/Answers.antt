@@ -1,8 +1,3 @@
-use Rattle.std.proofs.Common.{rules, arith, ◌≡◌, true, false, ◌∙◌, sym, ap}
-use Rattle.std.proofs.lemmas.Grind.{common_steps}
-use Rattle.meaning.specs.Lists.{all, any}
-use Rattle.layout.proofs.HasRoom.{slot-of}
-use Rattle.lists.specs.Tests.{is-false, is-true}
 use Rattle.fault_kinds.proofs.Bridge.{file_by}
 use Rattle.fault_kinds.proofs.file_of.Goals as goal
 

@@ -1,7 +1,6 @@
 use Rattle.fault_kinds.proofs.note_file.Goals.{else-is_slot-via-then-is_slot+else-primary, else-is_slot-via-else-is_slot}
-use Rattle.std.proofs.Common.{rules, arith, ◌≡◌, true, false, ◌∙◌, sym, ap}
+use Rattle.std.proofs.Common.{arith, ◌≡◌, true}
 use Rattle.std.proofs.lemmas.Grind.{common_steps}
-use Rattle.meaning.specs.Lists.{all, any}
 use Rattle.layout.proofs.HasRoom.{slot-of}
 use Rattle.lists.specs.Tests.{is-false, is-true}
 use Rattle.meaning.specs.Layout.{is_slot}

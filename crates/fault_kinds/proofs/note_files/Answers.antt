@@ -1,5 +1,4 @@
 use Rattle.fault_kinds.proofs.Noting.{walking-end}
-use native.Mathlib.Omega.{arith}
 use Rattle.fault_kinds.proofs.note_files.Goals as goal
 
 pub loop-p-init : goal.loop-p-init

@@ -1,5 +1,4 @@
 use Rattle.fault_kinds.specs.Noted.{WalkNoted}
-use Prim.Native.Nat.{◌-◌, ◌≤◌}
 use Rattle.fault_kinds.proofs.note_files.Given as goal
 
 abbrev pub invariant-loop-p : goal.invariant-loop-p

@@ -1,5 +1,4 @@
 use Rattle.fault_kinds.proofs.Noting.{leading_end}
-use native.Mathlib.Omega.{arith}
 use Rattle.fault_kinds.proofs.note_goods.Goals as goal
 
 pub loop-b-init : goal.loop-b-init

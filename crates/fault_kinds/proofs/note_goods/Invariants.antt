@@ -1,5 +1,4 @@
 use Rattle.fault_kinds.specs.Noted.{Leading}
-use Prim.Native.Nat.{◌-◌, ◌≤◌}
 use Rattle.fault_kinds.proofs.note_goods.Given as goal
 
 abbrev pub invariant-loop-b : goal.invariant-loop-b

@@ -1,8 +1,6 @@
-use Rattle.std.proofs.Common.{rules, arith}
+use Rattle.std.proofs.Common.{arith}
 use Rattle.std.proofs.lemmas.Grind.{common_steps}
 use Rattle.meaning.specs.Lists.{all, any}
-use Rattle.layout.proofs.HasRoom.{slot-of}
-use Rattle.lists.specs.Tests.{is-false, is-true}
 use Rattle.fault_kinds.proofs.run_holds.Goals as goal
 
 pub returns-then-field-g : goal.returns-then-field-g

@@ -1,8 +1,6 @@
-use Rattle.std.proofs.Common.{rules, arith, ◌≡◌, true, false, ◌∙◌, sym, ap}
+use Rattle.std.proofs.Common.{arith}
 use Rattle.std.proofs.lemmas.Grind.{common_steps}
 use Rattle.meaning.specs.Lists.{all, any}
-use Rattle.layout.proofs.HasRoom.{slot-of}
-use Rattle.lists.specs.Tests.{is-false, is-true}
 use Rattle.meaning.specs.Fault.{shared_fault}
 use Rattle.fault_kinds.specs.Overlap.{twice-is}
 use Rattle.fault_kinds.proofs.Bridge.{below-is}

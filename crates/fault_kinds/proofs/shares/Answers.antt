@@ -1,8 +1,8 @@
-use Rattle.std.proofs.Common.{rules, arith, ◌≡◌, true, false, ◌∙◌, sym, ap}
+use Rattle.std.proofs.Common.{arith, ◌≡◌, true}
 use Rattle.std.proofs.lemmas.Grind.{common_steps}
 use Rattle.meaning.specs.Lists.{all, any}
 use Rattle.layout.proofs.HasRoom.{slot-of}
-use Rattle.lists.specs.Tests.{is-false, is-true}
+use Rattle.lists.specs.Tests.{is-true}
 use Rattle.fault_kinds.specs.Tests.{shares}
 use Rattle.meaning.specs.Layout.{is_slot}
 use Rattle.fault_kinds.proofs.shares.Goals as goal

@@ -3,11 +3,9 @@ use Rattle.meaning.specs.Lists.{every}
 use Rattle.std.proofs.Common.{not}
 use Rattle.meaning.specs.Fault.{chain_fault}
 use Rattle.fault_kinds.specs.Reach.{reach}
-use Rattle.std.proofs.Common.{rules, arith, ◌≡◌, true, false, ◌∙◌, sym, ap}
+use Rattle.std.proofs.Common.{arith, ◌≡◌, true}
 use Rattle.std.proofs.lemmas.Grind.{common_steps}
 use Rattle.meaning.specs.Lists.{all, any}
-use Rattle.layout.proofs.HasRoom.{slot-of}
-use Rattle.lists.specs.Tests.{is-false, is-true}
 use Rattle.meaning.specs.Fault.{size_fault}
 use Rattle.fault_kinds.proofs.Bridge.{whole_by, whole_same}
 use Rattle.fault_kinds.proofs.size_fault.Goals as goal

@@ -1,8 +1,6 @@
 use Rattle.fault_kinds.proofs.tell_from.Goals.{else-is_slot-via-then-is_slot+then-hands_on+else-walked, else-is_slot-via-then-is_slot+else-hands_on, else-is_slot-via-else-is_slot}
 use Rattle.std.proofs.Common.{subst, List, ℕ, ◌+◌}
-use Rattle.std.proofs.Common.{rules, arith, ◌≡◌, true, false, ◌∙◌, sym, ap}
-use Rattle.std.proofs.lemmas.Grind.{common_steps}
-use Rattle.meaning.specs.Lists.{all, any}
+use Rattle.std.proofs.Common.{arith, sym}
 use Rattle.layout.proofs.HasRoom.{slot-of}
 use Rattle.lists.specs.Tests.{is-false, is-true}
 use Rattle.fault_kinds.specs.Noted.{Leading}

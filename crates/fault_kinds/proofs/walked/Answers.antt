@@ -1,8 +1,4 @@
-use Rattle.std.proofs.Common.{rules, arith, ◌≡◌, true, false, ◌∙◌, sym, ap}
-use Rattle.std.proofs.lemmas.Grind.{common_steps}
-use Rattle.meaning.specs.Lists.{all, any}
-use Rattle.layout.proofs.HasRoom.{slot-of}
-use Rattle.lists.specs.Tests.{is-false, is-true}
+use Rattle.std.proofs.Common.{◌∙◌}
 use Rattle.fault_kinds.proofs.Bridge.{walked_by}
 use Rattle.fault_kinds.proofs.walked.Goals as goal
 
