@@ -71,7 +71,7 @@ fn bad_entry(image: &[u8], g: Geometry, s: usize) -> bool
     !ends(image, g, s) && !hands_on(image, g, s)
 }
 
-// How many slots the directory has.
+// How many slots the directory has. Beside layout::slots, since this promises the length of the list that the definitions count.
 fn slots(image: &[u8], g: Geometry) -> usize
     requires { Room g image.now }
     ensures { Below 257 (length (slots g image.now)) result }
@@ -81,7 +81,8 @@ fn slots(image: &[u8], g: Geometry) -> usize
 
 // Walks ------------------------------------------------------------------------------------------------------------------
 
-// For slot s: p + 1, unless something is written down for it already.
+// For slot s: p + 1, unless something is written down for it already. A byte a slot, 0 for none, in memory that the caller lends: there is no
+// heap, and `WalkNoted` speaks of these bytes.
 fn note(files: &mut [u8; 256], s: usize, p: usize)
     requires { (s < 256) × (p + 1 < 256) }
     ensures { files.new ≡ noted files.old (p + 1) s }
@@ -97,7 +98,7 @@ fn note_walk(image: &[u8], g: Geometry, p: usize, n: usize, files: &mut [u8; 256
     ensures { files.new ≡ notes files.old (p + 1) (reach g image.now n p) }
 {
     let mut s = p;
-    for gone in 0..n {
+    for _ in 0..n {
         note(files, s, p);
         if !hands_on(image, g, s) {
             return;
@@ -151,7 +152,7 @@ pub fn file_of(image: &[u8], g: Geometry, files: &[u8], s: usize) -> usize
     first_file(image, g, files, s).unwrap_or(s)
 }
 
-// 1 where x, which a walk comes to from b, follows it, 2 where it does not.
+// 1 where x, which a walk comes to from b, follows it, 2 where it does not: the bytes of `goods`, as `Leading` tells them.
 fn tally(image: &[u8], g: Geometry, x: usize, b: usize) -> usize
     requires { Room g image.now × (leads g image.now x b ≡ true) }
     ensures { (result ≡ tally g image.now x b) × (1 ≤ result) × (result ≤ 2) }
@@ -254,6 +255,7 @@ pub fn all_taken(image: &[u8], g: Geometry, a: usize, n: usize) -> bool
     (a..a + n).all(|i| layout::taken(image, g, i))
 }
 
+// A `for`, and not `all` of a closure: that a run lies on the disk, which all_taken asks, is said of one run at a time.
 fn gat_holds(image: &[u8], g: Geometry, s: usize) -> bool
     requires { Room g image.now × Slot g image.now s × (runs_hold g image.now s ≡ true) }
     ensures { result ≡ gat_holds g image.now s }
@@ -384,7 +386,7 @@ fn whole_from(image: &[u8], g: Geometry, goods: &[u8], p: usize, n: usize) -> bo
     ensures { result ≡ every (λ s. not (chain_fault g image.now s)) (reach g image.now n p) }
 {
     let mut s = p;
-    for gone in 0..n {
+    for _ in 0..n {
         if chain_fault(image, g, goods, s) {
             return false;
         }
@@ -403,7 +405,7 @@ fn count_from(image: &[u8], g: Geometry, p: usize, n: usize) -> usize
 {
     let mut s = p;
     let mut c = 0;
-    for gone in 0..n {
+    for _ in 0..n {
         c += extent::entry_length(image, g, s);
         if !hands_on(image, g, s) {
             return c;

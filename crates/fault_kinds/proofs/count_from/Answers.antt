@@ -7,35 +7,35 @@ use native.Mathlib.Omega.{arith}
 use mathlib.Core.Path.{sym}
 use Rattle.fault_kinds.proofs.count_from.Goals as goal
 
-pub loop-gone-init : goal.loop-gone-init
-loop-gone-init c = (let e : c.args.n - 0 ≡ c.args.n = omega arith in rw e (sym (zero-add _)), c.requires.1, let h = c.requires.2 in omega arith)
+pub loop-init : goal.loop-init
+loop-init c = (let e : c.args.n - 0 ≡ c.args.n = omega arith in rw e (sym (zero-add _)), c.requires.1, let h = c.requires.2 in omega arith)
 
 pub entry_length-c-requires : goal.entry_length-c-requires
-entry_length-c-requires c = (c.requires.0, c.loop-gone.invariant.1)
+entry_length-c-requires c = (c.requires.0, c.loop.invariant.1)
 
 pub overflow_add-c : goal.overflow_add-c
-overflow_add-c c = let q = c.entry_length-c.ensures.small in let z = c.loop-gone.invariant.2 in omega arith
+overflow_add-c c = let q = c.entry_length-c.ensures.small in let z = c.loop.invariant.2 in omega arith
 
 pub hands_on-requires : goal.hands_on-requires
-hands_on-requires c = let p = c.requires in (p.0, c.loop-gone.invariant.1)
+hands_on-requires c = let p = c.requires in (p.0, c.loop.invariant.1)
 
 pub returns-then-not-hands_on : goal.returns-then-not-hands_on
 returns-then-not-hands_on c = record {
-  is = count-end _ _ _ _ _ _ _ c.loop-gone.invariant.0 (omega arith)
+  is = count-end _ _ _ _ _ _ _ c.loop.invariant.0 (omega arith)
       c.entry_length-c.ensures.is (is-false c.hands_on.ensures c.if-not-hands_on.true);
-  small = let q = c.entry_length-c.ensures.small in let z = c.loop-gone.invariant.2 in omega arith;
+  small = let q = c.entry_length-c.ensures.small in let z = c.loop.invariant.2 in omega arith;
 }
 
 pub field-s-requires : goal.field-s-requires
-field-s-requires c = (c.requires.0, c.loop-gone.invariant.1, omega arith)
+field-s-requires c = (c.requires.0, c.loop.invariant.1, omega arith)
 
-pub loop-gone-preserved : goal.loop-gone-preserved
-loop-gone-preserved c = (
-  rw (← one-less c.args.n c.loop-gone.gone) (count-on _ _ _ _ _ _ _ c.loop-gone.invariant.0 (omega arith)
+pub loop-preserved : goal.loop-preserved
+loop-preserved c = (
+  rw (← one-less c.args.n c.loop.counter) (count-on _ _ _ _ _ _ _ c.loop.invariant.0 (omega arith)
       c.entry_length-c.ensures.is (is-true c.hands_on.ensures c.if-not-hands_on.false) c.field-s.ensures.is),
   hands-slot _ _ _ (is-true c.hands_on.ensures c.if-not-hands_on.false) c.field-s.ensures.is,
-  let q = c.entry_length-c.ensures.small in let z = c.loop-gone.invariant.2 in omega arith,
+  let q = c.entry_length-c.ensures.small in let z = c.loop.invariant.2 in omega arith,
 )
 
 pub returns : goal.returns
-returns c = record { is = count-none' _ _ _ _ _ _ _ c.loop-gone.invariant.0 (omega arith); small = let z = c.loop-gone.invariant.2 in omega arith }
+returns c = record { is = count-none' _ _ _ _ _ _ _ c.loop.invariant.0 (omega arith); small = let z = c.loop.invariant.2 in omega arith }

@@ -5,6 +5,6 @@ use Prim.Native.Nat.{◌-◌, ◌+◌, ◌*◌, ◌≤◌}
 use mathlib.Core.Path.{◌≡◌}
 use Rattle.fault_kinds.proofs.count_from.Given as goal
 
-abbrev pub invariant-loop-gone : goal.invariant-loop-gone
-invariant-loop-gone l = (size l.g l.image (reach l.g l.image l.n l.p) ≡ l.c + size l.g l.image (reach l.g l.image (l.n - l.gone) l.s)) × Slot l.g l.image l.s ×
-    (l.c + 128 * (l.n - l.gone) ≤ 32768)
+abbrev pub invariant-loop : goal.invariant-loop
+invariant-loop l = (size l.g l.image (reach l.g l.image l.n l.p) ≡ l.c + size l.g l.image (reach l.g l.image (l.n - l.counter) l.s)) × Slot l.g l.image l.s ×
+    (l.c + 128 * (l.n - l.counter) ≤ 32768)

@@ -7,41 +7,41 @@ use Prim.Native.Nat.{◌-◌, ◌+◌}
 use mathlib.Core.Path.{refl}
 use Rattle.fault_kinds.proofs.note_walk.Goals as goal
 
-pub loop-gone-init : goal.loop-gone-init
-loop-gone-init c = (let e : c.args.n - 0 ≡ c.args.n = omega arith in rw e refl, c.requires.1)
+pub loop-init : goal.loop-init
+loop-init c = (let e : c.args.n - 0 ≡ c.args.n = omega arith in rw e refl, c.requires.1)
 
 pub note-requires : goal.note-requires
-note-requires c = let a = c.loop-gone.invariant.1.low in let b = c.requires.1.held in let e = c.requires.0.thirty in let l = c.requires.1.low in
+note-requires c = let a = c.loop.invariant.1.low in let b = c.requires.1.held in let e = c.requires.0.thirty in let l = c.requires.1.low in
     (omega arith, omega arith)
 
 pub hands_on-requires : goal.hands_on-requires
-hands_on-requires c = let l = c.loop-gone in let p = c.requires in (p.0, l.invariant.1)
+hands_on-requires c = let l = c.loop in let p = c.requires in (p.0, l.invariant.1)
 
 pub returns-then-not-hands_on : goal.returns-then-not-hands_on
-returns-then-not-hands_on c = let a = c.args in noting-stop a.g a.image.now a.n a.p (c.args.n - c.loop-gone.gone)
-    c.loop-gone.s (a.p + 1) a.files.now c.loop-gone.files
-    c.loop-gone.invariant.0 c.note.ensures (omega arith)
+returns-then-not-hands_on c = let a = c.args in noting-stop a.g a.image.now a.n a.p (c.args.n - c.loop.counter)
+    c.loop.s (a.p + 1) a.files.now c.loop.files
+    c.loop.invariant.0 c.note.ensures (omega arith)
     (is-false c.hands_on.ensures c.if-not-hands_on.true)
 
 pub field-s-requires : goal.field-s-requires
 field-s-requires c = (
   c.requires.0,
-  c.loop-gone.invariant.1,
+  c.loop.invariant.1,
   omega
       arith,
 )
 
-pub loop-gone-preserved : goal.loop-gone-preserved
-loop-gone-preserved c = let a = c.args in (
-  rw (← one-less c.args.n c.loop-gone.gone) (noting-on a.g a.image.now a.n a.p (c.args.n - c.loop-gone.gone)
-      c.loop-gone.s (a.p + 1) a.files.now
-      c.loop-gone.files
-      c.loop-gone.invariant.0 c.note.ensures
+pub loop-preserved : goal.loop-preserved
+loop-preserved c = let a = c.args in (
+  rw (← one-less c.args.n c.loop.counter) (noting-on a.g a.image.now a.n a.p (c.args.n - c.loop.counter)
+      c.loop.s (a.p + 1) a.files.now
+      c.loop.files
+      c.loop.invariant.0 c.note.ensures
       (omega arith) (is-true c.hands_on.ensures c.if-not-hands_on.false)
       c.field-s.ensures.is),
   hands-slot _ _ _ (is-true c.hands_on.ensures c.if-not-hands_on.false) c.field-s.ensures.is,
 )
 
 pub returns : goal.returns
-returns c = let a = c.args in noting-none a.g a.image.now a.n a.p (c.args.n - c.loop-gone.gone) c.loop-gone.s (a.p + 1) a.files.now c.loop-gone.files
-    c.loop-gone.invariant.0 (omega arith)
+returns c = let a = c.args in noting-none a.g a.image.now a.n a.p (c.args.n - c.loop.counter) c.loop.s (a.p + 1) a.files.now c.loop.files
+    c.loop.invariant.0 (omega arith)

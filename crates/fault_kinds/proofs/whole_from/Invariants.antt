@@ -6,5 +6,5 @@ use Rattle.meaning.specs.Lists.{every}
 use mathlib.Core.Path.{◌≡◌}
 use Rattle.fault_kinds.proofs.whole_from.Given as goal
 
-abbrev pub invariant-loop-gone : goal.invariant-loop-gone
-invariant-loop-gone l = (every (firm l.g l.image) (reach l.g l.image l.n l.p) ≡ every (firm l.g l.image) (reach l.g l.image (l.n - l.gone) l.s)) × Slot l.g l.image l.s
+abbrev pub invariant-loop : goal.invariant-loop
+invariant-loop l = (every (firm l.g l.image) (reach l.g l.image l.n l.p) ≡ every (firm l.g l.image) (reach l.g l.image (l.n - l.counter) l.s)) × Slot l.g l.image l.s
