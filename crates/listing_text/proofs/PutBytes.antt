@@ -1,15 +1,16 @@
 -- Bytes put one after the other, and what the listing's words are made of.
 use mathlib.Core.Path.{◌≡◌, refl, sym, ap, ◌∙◌}
-use mathlib.Core.Bool.{Bool, true, false, not, cond}
+use mathlib.Core.Bool.{Bool, true, false, not, cond, ◌&&◌}
 use mathlib.Core.List.{List, [], ◌∷◌, ◌++◌}
 use Prim.Native.Nat.{ℕ, suc, ◌+◌, ◌-◌, ◌/◌, ◌%◌, ◌≤◌, ◌<◌}
 use native.Mathlib.Numerals.{add-one}
 use native.Mathlib.Omega.{arith}
 use lib.Dec.{eqb}
-use lib.ListN.{length, take, drop, get_or, length-append, length-drop, drop_of_length-le}
-use lib.Seq.{take-suc, take_all, drop-cons, sets}
+use lib.ListN.{length, take, drop, get_or, length-append, length-drop}
+use lib.Seq.{take-suc, take_all, sets}
 use borrow.Author.Tests.{lt-ltb, le-ltb, eq-eqb, ne_eqb}
 use Rattle.copy.proofs.OneByOne.{sets-append}
+use Rattle.std.specs.List.{list_all}
 use Rattle.meaning.specs.Listing.{digits, stripped, slashed}
 use Rattle.listing_text.specs.Put.{Put, none}
 
@@ -108,20 +109,15 @@ stripped-blank x xs e = simp (eq-eqb _ _ e)
 pub stripped-kept : (x : ℕ) (xs : List ℕ) → (x ≡ 0x20 → ⊥) → stripped (x ∷ xs) ≡ x ∷ stripped xs
 stripped-kept x xs e = simp (ne_eqb _ _ e)
 
-pub blank-more : (part : List ℕ) (i : ℕ) → i < length part → get_or part i 0 ≡ 0x20
-    → stripped (drop i part) ≡ stripped (drop (i + 1) part)
-blank-more part i h e =
-    ap stripped (drop-cons part i 0 h) ∙ stripped-blank (get_or part i 0) (drop (suc i) part) e
-    ∙ ap (λ (k : ℕ). stripped (drop k part)) (sym (add-one i))
-
-pub blank-not : (part : List ℕ) (i : ℕ) → i < length part → (get_or part i 0 ≡ 0x20 → ⊥) → none (stripped (drop i part)) ≡ false
+-- all blank: nothing is left
+pub all-none : (xs : List ℕ) → list_all (λ x. eqb x 0x20) xs ≡ none (stripped xs)
 unfolding none
-blank-not part i h e =
-    ap (λ (r : List ℕ). none r) (ap stripped (drop-cons part i 0 h) ∙ stripped-kept (get_or part i 0) (drop (suc i) part) e)
-
-pub blank-all : (part : List ℕ) (i : ℕ) → length part ≤ i → none (stripped (drop i part)) ≡ true
-unfolding none
-blank-all part i h = ap (λ (r : List ℕ). none (stripped r)) (drop_of_length-le part h)
+all-none [] = refl
+all-none (x ∷ xs) = by (eqb x 0x20) (all-none xs)
+  where
+    by : (b : Bool) → list_all (λ y. eqb y 0x20) xs ≡ none (stripped xs) → (b && list_all (λ y. eqb y 0x20) xs) ≡ none (cond (not b) (x ∷ stripped xs) (stripped xs))
+    by true e = e
+    by false e = refl
 
 -- the type, lent as the rest of a name
 pub type-part : (name : List ℕ) → take (length name - 8) (drop 8 name) ≡ drop 8 name

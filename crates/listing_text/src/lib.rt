@@ -1,9 +1,11 @@
-// The text of the listing, put into a lent buffer. Each function answers the place after what it has put.
+// The text of the listing, put into a lent buffer. Each function answers the place after what it has put: no heap, so no String, and no
+// write!, which puts from the start of what it is lent and may refuse.
 #![tactic(auto)]
 
-ghost use Rattle.std.specs.Prelude.{◌≡◌, [], ◌∷◌, ◌+◌, ◌<◌, ◌≤◌, length};
+ghost use Rattle.std.specs.Prelude.{◌≡◌, ◌==◌, [], ◌∷◌, ◌+◌, ◌<◌, ◌≤◌, length};
+ghost use Rattle.std.specs.List.{list_all};
 ghost use Rattle.meaning.specs.Listing.{digits, decimal, stripped, slashed, name_text, line};
-ghost use Rattle.listing_text.specs.Put.{Put, none, files_line, free_line};
+ghost use Rattle.listing_text.specs.Put.{Put, files_line, free_line};
 
 // A number of 64 bits has at most 20 digits.
 pub const NUMBER_BYTES: usize = 20;
@@ -56,10 +58,7 @@ fn put_kept(to: &mut [u8], at: usize, b: u8) -> usize
     requires { at < length to.old }
     ensures { Put 1 to.old at (stripped (b ∷ [])) to.new result }
 {
-    if b == 0x20 {
-        return at;
-    }
-    put_byte(to, at, b)
+    if b == 0x20 { at } else { put_byte(to, at, b) }
 }
 
 // A name or a type without the blanks that pad it.
@@ -67,27 +66,18 @@ fn put_stripped(to: &mut [u8], at: usize, part: &[u8]) -> usize
     requires { at + length part.now ≤ length to.old }
     ensures { Put (length part.now) to.old at (stripped part.now) to.new result }
 {
-    let mut i = 0;
     let mut e = at;
-    while i < part.len() {
-        e = put_kept(to, e, part[i]);
-        i += 1;
+    for b in part {
+        e = put_kept(to, e, *b);
     }
     e
 }
 
 // Whether nothing but blanks is there.
 fn blank(part: &[u8]) -> bool
-    ensures { result ≡ none (stripped part.now) }
+    ensures { result ≡ list_all (λ x. x == 0x20) part.now }
 {
-    let mut i = 0;
-    while i < part.len() {
-        if part[i] != 0x20 {
-            return false;
-        }
-        i += 1;
-    }
-    true
+    part.iter().all(|b| *b == 0x20)
 }
 
 // A slash and the type, if there is one.

@@ -5,26 +5,25 @@ use native.Mathlib.Omega.{arith}
 use borrow.Author.Rules.{rules}
 use Rattle.listing_text.proofs.put_stripped.Goals as goal
 
-pub loop-i-init : goal.loop-i-init
-loop-i-init c = (put-none 0 c.args.to.now c.args.at refl, omega arith, refl)
+pub loop-b-init : goal.loop-b-init
+loop-b-init c = (put-none 0 c.args.to.now c.args.at refl, refl)
 
 pub put_kept-e-requires : goal.put_kept-e-requires
 put_kept-e-requires c = omega (
   arith,
-  c.loop-i.invariant.0.past,
-  c.loop-i.invariant.0.fits,
+  c.loop-b.invariant.0.past,
+  c.loop-b.invariant.0.fits,
   c.requires,
 )
 
-pub loop-i-preserved : goal.loop-i-preserved
-loop-i-preserved c = (
-  put_both c.loop-i.invariant.0 c.put_kept-e.ensures
+pub loop-b-preserved : goal.loop-b-preserved
+loop-b-preserved c = (
+  put_both c.loop-b.invariant.0 c.put_kept-e.ensures
       (stripped-more c.args.part.now
-      c.loop-i.i c.loop-i-test.true) (omega arith),
-  omega arith,
+      c.loop-b.b-index (omega arith)) (omega arith),
   search rules,
 )
 
 pub returns : goal.returns
-returns c = put_as c.loop-i.invariant.0 (stripped-all c.args.part.now c.loop-i.i c.loop-i-test.false)
+returns c = put_as c.loop-b.invariant.0 (stripped-all c.args.part.now c.loop-b.b-index (omega arith))
     (omega arith)
