@@ -1,15 +1,13 @@
 -- The rows of a table, file by file.
 use mathlib.Core.Path.{◌≡◌, refl, sym, ap, ◌∙◌}
 use mathlib.Core.List.{List, [], ◌∷◌, ◌++◌, append-nil, append_assoc}
-use mathlib.Core.Bool.{true, false}
-use Prim.Native.Nat.{ℕ, zero, suc, ◌+◌, ◌-◌, ◌*◌, ◌/◌, ◌%◌, ◌≤◌, ◌<◌}
+use Prim.Native.Nat.{ℕ, zero, suc, ◌+◌, ◌-◌, ◌*◌, ◌/◌, ◌≤◌, ◌<◌}
 use native.Mathlib.Omega.{arith}
 use lib.ListN.{length, take, drop, length-append}
 use lib.Seq.{sets, length-sets, take_all, take-append_seam, drop-nil}
 use lib.Dec.{ltb}
 use borrow.Author.Tests.{ne_eqb, lt-ltb, le-ltb}
 use Rattle.meaning.specs.Lists.{each}
-use Rattle.meaning.specs.Layout.{directory_sectors}
 use Rattle.meaning.specs.Entries.{name_of, size_of}
 use Rattle.meaning.specs.Chain.{owned}
 use Rattle.meaning.specs.Refusal.{unplaced}
@@ -23,7 +21,8 @@ use Rattle.laws.specs.Carried.{carried_other}
 use Rattle.lists.specs.Tests.{first-hit, first-skip, first-none}
 use Rattle.copy.proofs.OneByOne.{sets-append}
 use Rattle.passed.proofs.Checked.{check-stop, check-then, handed-on}
-use Rattle.listing.proofs.Files.{Tells, rest, rest-start, rest_end, rest-past, rest-no, rest-yes}
+use Rattle.listing.specs.From.{listed_from, NextListed}
+use Rattle.listing.proofs.Files.{from-start}
 
 module _ (g : Geometry) (d : List ℕ) where
   -- a row in two parts: the name, then the numbers
@@ -45,13 +44,13 @@ module _ (g : Geometry) (d : List ℕ) where
   -- of the files from number i on, `done` have their rows in the table, n of them, and `left` are to be passed over from slot s on
   pub record Rowing (t₀ : List ℕ) (i left n s : ℕ) (t : List ℕ) : Type 0 where
     pub done : List ℕ
-    pub ahead : drop i (listed g d) ≡ done ++ drop left (rest g d s)
+    pub ahead : drop i (listed g d) ≡ done ++ drop left (listed_from g d s)
     pub many : n ≡ length done
     pub here : t ≡ sets t₀ 0 (each (row g d) done)
     pub fits : 20 * n ≤ length t₀
 
   pub rowing_start : (t : List ℕ) (i : ℕ) → Rowing t i i 0 0 t
-  rowing_start t i = record { done = []; ahead = ap (drop i) (rest-start g d); many = refl; here = refl; fits = omega arith }
+  rowing_start t i = record { done = []; ahead = ap (drop i) (from-start g d); many = refl; here = refl; fits = omega arith }
 
   pub rowing-room : {t₀ t : List ℕ} {i left n s : ℕ} → Rowing t₀ i left n s t → length t ≡ length t₀
   rowing-room {t₀} r = ap length r.here ∙ length-sets t₀ 0 (each (row g d) r.done)
@@ -67,12 +66,12 @@ module _ (g : Geometry) (d : List ℕ) where
       ∙ ap (λ (ps : List ℕ). (length ps, sets t₀ 0 (each (row g d) ps))) (sym e)
 
   -- no slot is left
-  pub rowing-end : {t₀ t : List ℕ} {i left n s : ℕ} → 256 ≤ s → Rowing t₀ i left n s t → (n, t) ≡ rows_from g d i t₀
+  pub rowing-end : {t₀ t : List ℕ} {i left n s : ℕ} → listed_from g d s ≡ [] → Rowing t₀ i left n s t → (n, t) ≡ rows_from g d i t₀
   unfolding told_from
   rowing-end {t₀} {left = left} h r =
       let m = r.many in let f = r.fits in
       rowing-told r (
-      ap (take (length t₀ / 20)) (r.ahead ∙ ap (λ (x : List ℕ). r.done ++ x) (ap (drop left) (rest_end g d h) ∙ drop-nil left) ∙ append-nil r.done)
+      ap (take (length t₀ / 20)) (r.ahead ∙ ap (λ (x : List ℕ). r.done ++ x) (ap (drop left) h ∙ drop-nil left) ∙ append-nil r.done)
       ∙ take_all (length t₀ / 20) r.done (omega arith))
 
   -- no row more fits
@@ -82,60 +81,36 @@ module _ (g : Geometry) (d : List ℕ) where
       let m = r.many in let w = r.fits in
       let q : length t₀ / 20 ≡ length r.done = omega arith in
       rowing-told r (
-      ap (λ (k : ℕ). take k (drop i (listed g d))) q ∙ ap (take (length r.done)) r.ahead ∙ take-append_seam r.done (drop left (rest g d s)))
+      ap (λ (k : ℕ). take k (drop i (listed g d))) q ∙ ap (take (length r.done)) r.ahead ∙ take-append_seam r.done (drop left (listed_from g d s)))
 
-  module _ {s columns : ℕ} (l : s < 256) (e : columns ≡ directory_sectors g d - 2) where
-    pub rowing-past : {t₀ t : List ℕ} {i left n : ℕ} → columns ≤ s % 32 → Rowing t₀ i left n s t → Rowing t₀ i left n (32 * (s / 32 + 1)) t
-    rowing-past {left = left} h r =
-        record {
-          done = r.done;
-          ahead = r.ahead ∙ ap (λ (x : List ℕ). r.done ++ drop left x)
-              (rest-past g d l e h);
-          many = r.many;
-          here = r.here;
-          fits = r.fits;
-        }
-
-    pub rowing-no : {t₀ t : List ℕ} {i left n : ℕ} → s % 32 < columns → Tells g d s ≡ false → Rowing t₀ i left n s t → Rowing t₀ i left n (s + 1) t
-    rowing-no {left = left} h k r =
-        record {
-          done = r.done;
-          ahead = r.ahead ∙ ap (λ (x : List ℕ). r.done ++ drop left x)
-              (rest-no g d l e h k);
-          many = r.many;
-          here = r.here;
-          fits = r.fits;
-        }
-
+  module _ {from s : ℕ} (x : NextListed g d from s) where
     -- a file before the number asked for
-    pub rowing-over : {t₀ t : List ℕ} {i : ℕ} (left : ℕ) {n : ℕ} → s % 32 < columns → Tells g d s ≡ true → (left ≡ 0 → ⊥) → Rowing t₀ i left n s t
-        → Rowing t₀ i (left - 1) n (s + 1) t
-    rowing-over zero h k z r = absurd (z refl)
-    rowing-over (suc left) h k z r =
+    pub rowing-over : {t₀ t : List ℕ} {i : ℕ} (left : ℕ) {n : ℕ} → (left ≡ 0 → ⊥) → Rowing t₀ i left n from t → Rowing t₀ i (left - 1) n (s + 1) t
+    rowing-over zero z r = absurd (z refl)
+    rowing-over (suc left) z r =
         let q : left ≡ suc left - 1 = omega arith in
         record {
           done = r.done;
-          ahead = r.ahead ∙ ap (λ (x : List ℕ). r.done ++ drop (suc left) x) (rest-yes g d l e h k) ∙ ap (λ (j : ℕ). r.done ++ drop j (rest g d (s + 1)))
-              q;
+          ahead = r.ahead ∙ ap (λ (y : List ℕ). r.done ++ drop (suc left) y) x.ahead ∙ ap (λ (j : ℕ). r.done ++ drop j (listed_from g d (s + 1))) q;
           many = r.many;
           here = r.here;
           fits = r.fits;
         }
 
     -- a file whose row goes into the table
-    pub rowing-put : {t₀ t t' : List ℕ} {i left left' n n' : ℕ} → s % 32 < columns → Tells g d s ≡ true → left ≡ 0 → 20 * n + 20 ≤ length t₀
-        → t' ≡ sets t (20 * n) (row g d s) → left' ≡ left → n' ≡ n + 1 → Rowing t₀ i left n s t → Rowing t₀ i left' n' (s + 1) t'
-    rowing-put {t₀} {t} {t'} {i} {left} {left'} {n} {n'} h k z f p y q r =
+    pub rowing-put : {t₀ t t' : List ℕ} {i left n : ℕ} → left ≡ 0 → 20 * n + 20 ≤ length t₀ → t' ≡ sets t (20 * n) (row g d s) → Rowing t₀ i left n from t
+        → Rowing t₀ i left (n + 1) (s + 1) t'
+    rowing-put {t₀} {t} {t'} {i} {left} {n} z f p r =
         let m = r.many in
         let w : 20 * n ≡ 0 + length (each (row g d) r.done) = omega (arith, rows-length g d r.done) in
         record {
           done = r.done ++ (s ∷ []);
           ahead =
-              r.ahead ∙ ap (λ (j : ℕ). r.done ++ drop j (rest g d s)) z ∙ ap (λ (x : List ℕ). r.done ++ x) (rest-yes g d l e h k)
-              ∙ sym (append_assoc r.done (s ∷ []) (rest g d (s + 1))) ∙ ap (λ (j : ℕ). (r.done ++ (s ∷ [])) ++ drop j (rest g d (s + 1))) (sym (y ∙ z));
-          many = q ∙ omega (arith, length-append r.done (s ∷ []));
+              r.ahead ∙ ap (λ (j : ℕ). r.done ++ drop j (listed_from g d from)) z ∙ ap (λ (y : List ℕ). r.done ++ y) x.ahead
+              ∙ sym (append_assoc r.done (s ∷ []) (listed_from g d (s + 1))) ∙ ap (λ (j : ℕ). (r.done ++ (s ∷ [])) ++ drop j (listed_from g d (s + 1))) (sym z);
+          many = omega (arith, length-append r.done (s ∷ []));
           here =
-              p ∙ ap (λ (x : List ℕ). sets x (20 * n) (row g d s)) r.here ∙ ap (λ (j : ℕ). sets (sets t₀ 0 (each (row g d) r.done)) j (row g d s)) w
+              p ∙ ap (λ (y : List ℕ). sets y (20 * n) (row g d s)) r.here ∙ ap (λ (j : ℕ). sets (sets t₀ 0 (each (row g d) r.done)) j (row g d s)) w
               ∙ sym (sets-append t₀ 0 (each (row g d) r.done) (row g d s)) ∙ ap (sets t₀ 0) (sym (rows_last r.done s));
           fits = omega arith;
         }

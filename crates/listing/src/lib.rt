@@ -1,35 +1,42 @@
 // The listing: one file a call, and the counts FILES and FREE. `checked` is the answer of the check of the whole disk.
 #![tactic(auto)]
 
-ghost use Rattle.std.specs.Prelude.{◌≡◌, [], ◌∷◌, ◌+◌, ◌*◌, ◌<◌, ◌≤◌, length, drop};
+ghost use Rattle.std.specs.Prelude.{◌≡◌, [], ◌∷◌, ◌+◌, ◌*◌, ◌<◌, ◌≤◌, length, drop, MatchOption};
 ghost use Rattle.std.proofs.lemmas.List.Edits.{sets};
 ghost use Rattle.meaning.specs.Lists.{all};
-ghost use Rattle.meaning.specs.Layout.{entry_at};
 ghost use Rattle.meaning.specs.Entries.{in_use_primary};
 ghost use Rattle.meaning.specs.Listing.{no_file, shown, listed, tell_first, list, counts};
 ghost use Rattle.meaning.specs.Refusals.{check};
 ghost use Rattle.list_rows.specs.Rows.{row, rows_from, list_from};
 ghost use Rattle.layout.specs.Room.{Room, Slot};
 ghost use Rattle.seek.specs.Seek.{Walkable, Used};
+ghost use Rattle.listing.specs.From.{listed_from, NextListed};
 
 use list_rows::Rows;
 use meaning::{Counts, Geometry, Listed, Refusal};
 
 const ROW_BYTES: usize = 20;
 
-// Whether a file that is listed starts at slot s, whose entry is at `at`: a primary entry in use, without the system flag. One byte is read.
-fn tells(image: &[u8], g: Geometry, s: usize, at: usize) -> bool
-    requires { Room g image.now × Slot g image.now s × (at ≡ entry_at g s) }
+// Whether a file that is listed starts at slot s: a primary entry in use, without the system flag.
+fn tells(image: &[u8], g: Geometry, s: usize) -> bool
+    requires { Room g image.now × Slot g image.now s }
     ensures { result ≡ all (in_use_primary g image.now s ∷ shown g image.now s ∷ []) }
 {
-    let f = layout::wide(image[at]);
-    if (f >> layout::IN_USE) % 2 != 1 {
-        return false;
+    layout::primary(image, g, s) && !layout::system(image, g, s)
+}
+
+// The first slot from `from` on at which a file that is listed starts.
+fn next_listed(image: &[u8], g: Geometry, from: usize) -> Option<usize>
+    requires { Room g image.now }
+    ensures { MatchOption result (listed_from g image.now from ≡ []) (λ s. NextListed g image.now from s) }
+{
+    let columns = layout::columns(image, g);
+    for s in from..256 {
+        if s % 32 < columns && tells(image, g, s) {
+            return Some(s);
+        }
     }
-    if (f >> layout::EXTENSION) % 2 == 1 {
-        return false;
-    }
-    (f >> layout::SYSTEM) % 2 != 1
+    None
 }
 
 // Nothing told of a file: a refusal, or "no more".
@@ -59,29 +66,19 @@ fn tell(image: &[u8], g: Geometry, s: usize) -> Listed
     }
 }
 
-// The listed file of that number, by rising slot number; or "no more". Row by row, so that the next entry is 256 bytes on.
+// The listed file of that number, by rising slot number; or "no more".
 fn told(image: &[u8], g: Geometry, number: usize) -> Listed
     requires { Walkable g image.now }
     ensures { result ≡ tell_first g image.now (drop number (listed g image.now)) }
 {
-    let columns = layout::directory_sectors(image, g) - 2;
     let mut left = number;
-    let mut row = 0;
-    while row < 8 {
-        let mut s = 32 * row;
-        let end = s + columns;
-        let mut at = layout::entry_at(image, g, s);
-        while s < end {
-            if tells(image, g, s, at) {
-                if left == 0 {
-                    return tell(image, g, s);
-                }
-                left -= 1;
-            }
-            at += 256;
-            s += 1;
+    let mut from = 0;
+    while let Some(s) = next_listed(image, g, from) {
+        if left == 0 {
+            return tell(image, g, s);
         }
-        row += 1;
+        left -= 1;
+        from = s + 1;
     }
     no_file(refusal::unplaced(0))
 }
@@ -97,26 +94,16 @@ pub fn list_checked(image: &[u8], g: Geometry, number: usize, checked: Refusal) 
     told(image, g, number)
 }
 
-// FILES: how many files are listed, row by row.
+// FILES: how many files are listed.
 fn files_count(image: &[u8], g: Geometry) -> usize
     requires { Room g image.now }
     ensures { result ≡ length (listed g image.now) }
 {
-    let columns = layout::directory_sectors(image, g) - 2;
     let mut n = 0;
-    let mut row = 0;
-    while row < 8 {
-        let mut s = 32 * row;
-        let end = s + columns;
-        let mut at = layout::entry_at(image, g, s);
-        while s < end {
-            if tells(image, g, s, at) {
-                n += 1;
-            }
-            at += 256;
-            s += 1;
-        }
-        row += 1;
+    let mut from = 0;
+    while let Some(s) = next_listed(image, g, from) {
+        n += 1;
+        from = s + 1;
     }
     n
 }
@@ -163,35 +150,25 @@ fn put_row(image: &[u8], g: Geometry, s: usize, table: &mut [u8], to: usize)
     copy::put_part(table, to + 11, &numbers, 0, 9);
 }
 
-// The rows of the listed files from that number on, as many as fit; how many. One pass, as `told` makes it.
+// The rows of the listed files from that number on, as many as fit; how many.
 fn put_rows(image: &[u8], g: Geometry, number: usize, table: &mut [u8]) -> usize
     requires { Walkable g image.now }
     ensures { (result, table.new) ≡ rows_from g image.now number table.old }
 {
-    let columns = layout::directory_sectors(image, g) - 2;
     let mut left = number;
     let mut n = 0;
-    let mut row = 0;
-    while row < 8 {
-        let mut s = 32 * row;
-        let end = s + columns;
-        let mut at = layout::entry_at(image, g, s);
-        while s < end {
-            if tells(image, g, s, at) {
-                if left == 0 {
-                    if table.len() < ROW_BYTES * n + ROW_BYTES {
-                        return n;
-                    }
-                    put_row(image, g, s, table, ROW_BYTES * n);
-                    n += 1;
-                } else {
-                    left -= 1;
-                }
+    let mut from = 0;
+    while let Some(s) = next_listed(image, g, from) {
+        if left == 0 {
+            if table.len() < ROW_BYTES * n + ROW_BYTES {
+                return n;
             }
-            at += 256;
-            s += 1;
+            put_row(image, g, s, table, ROW_BYTES * n);
+            n += 1;
+        } else {
+            left -= 1;
         }
-        row += 1;
+        from = s + 1;
     }
     n
 }

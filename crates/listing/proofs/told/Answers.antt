@@ -1,87 +1,16 @@
 use Rattle.meaning.specs.Listing.{no_file}
-use native.Mathlib.Omega.{arith}
-use Prim.Native.Nat.{ℕ, ◌-◌}
-use mathlib.Core.Path.{ap, sym, ◌∙◌, subst}
-use Rattle.look_up.proofs.Pass.{row-start, row-slot, row_here, row_next, row-past, row-after}
-use Rattle.listing.proofs.Files.{row-entry}
-use Rattle.listing.proofs.Files.{Telling, telling-start, telling-past, telling-no, telling-more, telling-here, telling-end, telling-same, tells-used}
+use mathlib.Core.Path.{ap, ◌∙◌}
+use Rattle.listing.proofs.Files.{telling-start, telling-more, telling-here, telling-end}
 use Rattle.listing.proofs.told.Goals as goal
-use Rattle.listing.proofs.told.Goals.{then-tells+else-left-eq0, else-tells}
-
-pub loop-row-init : goal.loop-row-init
-loop-row-init c = (omega arith, telling-start _ _ _)
 
 pub loop-s-init : goal.loop-s-init
-loop-s-init c = let e = c.directory_sectors-columns.ensures in let t = c.requires.room.thirty in (
-  row-start _ _ c.loop-row-test.true (omega arith),
-  c.entry_at-at.ensures ∙ row-entry c.args.g
-      c.loop-row.row,
-  c.loop-row.invariant.1,
-)
-
-pub tells-requires : goal.tells-requires
-tells-requires c = let e = c.directory_sectors-columns.ensures in let i = c.loop-s.invariant.0 in let b = i.begun in
-    let f = i.few in let q = c.loop-s.invariant.1 in let z = c.loop-s-test.true in let h = row_here i z in
-    (c.requires.room, record { low = row-slot i (omega arith); held = omega arith }, omega arith)
-
-pub tell-requires : goal.tell-requires
-tell-requires c = let i = c.loop-s.invariant.0 in let z = c.loop-s-test.true in (
-  c.requires,
-  tells-used _ _ (row-slot i (omega arith))
-      (ap (λ (k : ℕ). k - 2) c.directory_sectors-columns.ensures) (row_here i z)
-      (sym c.tells.ensures ∙ c.if-tells.true),
-)
+loop-s-init c = telling-start _ _ _
 
 pub returns-then-left-eq0 : goal.returns-then-left-eq0
-returns-then-left-eq0 c = let i = c.loop-s.invariant.0 in let z = c.loop-s-test.true in c.tell.ensures ∙ telling-here _ _ (row-slot i (omega arith))
-    (ap (λ (k : ℕ). k - 2) c.directory_sectors-columns.ensures) (row_here i z)
-    (sym c.tells.ensures ∙ c.if-tells.true) c.if-left-eq0.true
-    c.loop-s.invariant.2
-
-pub overflow_add-at : goal.overflow_add-at
-overflow_add-at c =
-    let i = c.loop-s.invariant.0 in
-    let a = i.begun in
-    let b = i.few in
-    let q = c.loop-s.invariant.1 in
-    let z = c.loop-s-test.true in
-    let r = c.requires.room.directory in
-    let m = c.requires.room.most in
-    let l = c.loop-row-test.true in
-    omega arith
-
-pub overflow_add-s : goal.overflow_add-s
-overflow_add-s c = let r = row-slot c.loop-s.invariant.0 (let z = c.loop-s-test.true in omega arith) in omega arith
-
-pub loop-s-smaller : goal.loop-s-smaller
-loop-s-smaller c = let z = c.loop-s-test.true in omega arith
+returns-then-left-eq0 c = c.tell.ensures ∙ telling-here _ _ c.in-Some.ensures c.if-left-eq0.true c.loop-s.invariant
 
 pub loop-s-preserved : goal.loop-s-preserved
-loop-s-preserved c = let e = ap (λ (k : ℕ). k - 2) c.directory_sectors-columns.ensures in
-    let i = c.loop-s.invariant.0 in let z = c.loop-s-test.true in let l = row-slot i (omega arith) in
-    let h = row_here i z in let b = i.begun in let r = c.loop-s.invariant.1 in let f = c.loop-s.invariant.2 in elim c.if-tells.branch [
-      | then-tells+else-left-eq0 w ↦ (
-        row_next i z,
-        omega arith,
-        telling-same _ _ w.left-is
-            (telling-more _ _ l e _ _ h (sym c.tells.ensures ∙ w.if-tells.true) w.if-left-eq0.false f),
-      )
-      | else-tells w ↦ (row_next i z, omega arith, telling-same _ _ w.left-is (telling-no _ _ l e h (sym c.tells.ensures ∙ w.if-tells.false) f))
-    ]
-
-pub loop-row-smaller : goal.loop-row-smaller
-loop-row-smaller c = let z = c.loop-row-test.true in omega arith
-
-pub loop-row-preserved : goal.loop-row-preserved
-loop-row-preserved c = let i = c.loop-s.invariant.0 in let a = i.ends in let b = i.few in let r = c.loop-row-test.true in (
-  omega arith,
-  subst (Telling c.args.g
-      c.args.image.now
-      c.args.number c.loop-s.left) (row-after i c.loop-s-test.false)
-      (telling-past _ _ (row-slot i a) (ap (λ (k : ℕ). k - 2) c.directory_sectors-columns.ensures)
-      (row-past i c.loop-s-test.false) c.loop-s.invariant.2),
-)
+loop-s-preserved c = telling-more _ _ c.in-Some.ensures _ _ c.if-left-eq0.false c.loop-s.invariant
 
 pub returns : goal.returns
-returns c = c.no_file.ensures ∙ ap no_file c.unplaced.ensures
-    ∙ telling-end _ _ (let z = c.loop-row-test.false in omega arith) c.loop-row.invariant.1
+returns c = c.no_file.ensures ∙ ap no_file c.unplaced.ensures ∙ telling-end _ _ c.in_default.ensures c.loop-s.invariant
