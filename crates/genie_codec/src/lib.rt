@@ -35,27 +35,19 @@ pub fn geometry(
     }
 }
 
-// Two bytes as a number, low byte first.
-fn two(b: &[u8], i: usize) -> usize
-    requires { (i ≤ 17) × (19 ≤ length b.now) }
-    ensures { Below 65536 (two b.now i) result }
-{
-    layout::wide(b[i]) + 256 * layout::wide(b[i + 1])
-}
-
 // The handle that the first 19 bytes hold.
 pub fn handle_of(b: &[u8]) -> Handle
     requires { 19 ≤ length b.now }
     ensures { result ≡ handle_of b.now }
 {
-    let mut name = [0u8; 11];
-    copy::put_part(&mut name, 0, b, 8, NAME_BYTES);
+    let mut name = [0; NAME_BYTES];
+    name.copy_from_slice(&b[8..HANDLE_BYTES]);
     Handle {
-        slot: layout::wide(b[0]),
+        slot: usize::from(b[0]),
         name,
-        at: two(b, 4) + 65536 * two(b, 6),
-        len: two(b, 2),
-        level: layout::wide(b[1]),
+        at: u32::from_le_bytes([b[4], b[5], b[6], b[7]]) as usize,
+        len: usize::from(u16::from_le_bytes([b[2], b[3]])),
+        level: usize::from(b[1]),
     }
 }
 
@@ -91,28 +83,23 @@ pub fn mode_of(sequential: bool) -> Mode
     ensures { result ≡ mode_of sequential }
 {
     if sequential {
-        return Mode::Sequential;
+        Mode::Sequential
+    } else {
+        Mode::Random
     }
-    Mode::Random
 }
 
 pub fn told(b: bool) -> usize
     ensures { result ≡ told b }
 {
-    if b {
-        return 1;
-    }
-    0
+    usize::from(b)
 }
 
 // A truth as a number of its own, so that several can be added.
 fn flag(b: bool, n: usize) -> usize
     ensures { (result ≡ cond b n 0) × (result ≤ n) }
 {
-    if b {
-        return n;
-    }
-    0
+    if b { n } else { 0 }
 }
 
 // What differs of a file: 1 the size, 2 the date, 4 other attributes, 8 the contents.

@@ -6,6 +6,6 @@ pub returns-then-sequential : goal.returns-then-sequential
 unfolding mode_of
 returns-then-sequential c = search rules
 
-pub returns : goal.returns
+pub returns-else-sequential : goal.returns-else-sequential
 unfolding mode_of
-returns c = search rules
+returns-else-sequential c = search rules
