@@ -1,16 +1,15 @@
 -- The bytes of a handle, where there are enough of them and where there are not.
-use mathlib.Core.Path.{◌≡◌, refl, sym, ap, ◌∙◌}
+use mathlib.Core.Path.{◌≡◌, sym, ap, ◌∙◌}
 use mathlib.Core.List.{List}
 use mathlib.Core.Bool.{Bool, cond}
 use Prim.Native.Nat.{ℕ, ◌≤◌, ◌<◌, ◌%◌}
-use lib.Dec.{ltb}
 use lib.ListN.{length, set}
 use borrow.Author.Tests.{lt-ltb, le-ltb}
 use Rattle.meaning.specs.Layout.{byte}
 use Rattle.meaning.specs.Handles.{no_handle}
 use Rattle.meaning.specs.declared.Handle.{Handle}
 use Rattle.genie_codec.specs.Codec as one
-use Rattle.drives.specs.Pair.{no_drive_handle, handle_on}
+use Rattle.drives.specs.Pair.{handle_on}
 use Rattle.drives.specs.declared.DriveHandle.{DriveHandle}
 use Rattle.drives_codec.specs.Codec.{handle_bytes, long, handle_of, stored, length_for}
 

@@ -15,8 +15,7 @@ pub fn handle_of(b: &[u8]) -> DriveHandle
     if b.len() < HANDLE_BYTES {
         return drives_told::handle_on(0, look_up::no_handle());
     }
-    let drive = layout::wide(b[19]);
-    drives_told::handle_on(drive, genie_codec::handle_of(b))
+    drives_told::handle_on(usize::from(b[19]), genie_codec::handle_of(b))
 }
 
 // The handle goes to the first 20 bytes; fewer stay as they stood.
@@ -26,8 +25,7 @@ pub fn put_handle(b: &mut [u8], h: DriveHandle)
     if b.len() < HANDLE_BYTES {
         return;
     }
-    let held = h.handle;
-    genie_codec::put_handle(b, held);
+    genie_codec::put_handle(b, h.handle);
     b[19] = (h.drive % 256) as u8;
 }
 
@@ -35,8 +33,5 @@ pub fn put_handle(b: &mut [u8], h: DriveHandle)
 pub fn length_for(b: &[u8], len: usize) -> usize
     ensures { result ≡ length_for b.now len }
 {
-    if b.len() < HANDLE_BYTES {
-        return 0;
-    }
-    len
+    if b.len() < HANDLE_BYTES { 0 } else { len }
 }

@@ -7,5 +7,5 @@ returns-then-b-lt-HANDLE_BYTES c = handle-none _ c.if-b-lt-HANDLE_BYTES.true c.n
 
 -- src/lib.rt:9:1
 pub returns : goal.returns
-returns c = let the-if1 = c.if-b-lt-HANDLE_BYTES in let the-wide = c.wide-drive in
-    handle-is _ the-if1.false the-wide.ensures.is c.handle_of.ensures c.handle_on-2.ensures
+returns c = let the-if1 = c.if-b-lt-HANDLE_BYTES in
+    handle-is _ the-if1.false c.from.ensures c.handle_of.ensures c.handle_on-2.ensures

@@ -6,5 +6,5 @@ pub returns-then-b-lt-HANDLE_BYTES : goal.returns-then-b-lt-HANDLE_BYTES
 returns-then-b-lt-HANDLE_BYTES c = length_none _ _ c.if-b-lt-HANDLE_BYTES.true
 
 -- src/lib.rt:32:1
-pub returns : goal.returns
-returns c = length-is _ _ c.if-b-lt-HANDLE_BYTES.false
+pub returns-else-b-lt-HANDLE_BYTES : goal.returns-else-b-lt-HANDLE_BYTES
+returns-else-b-lt-HANDLE_BYTES c = length-is _ _ c.if-b-lt-HANDLE_BYTES.false
