@@ -21,7 +21,7 @@ use Rattle.meaning.specs.declared.Space.{Space}
 use Rattle.meaning.specs.declared.Refusal.{Refusal}
 use Rattle.meaning.specs.Refusal.{unplaced}
 use Rattle.laws.specs.Stretches.{stretch-taken, stretch-free, stretch-le}
-use Rattle.lists.specs.Ranges.{left-none}
+use Rattle.lists.specs.Ranges.{left-none, left-more}
 use Rattle.lists.specs.Tests.{keep-yes, keep-no, all-at, first-hit, first-skip, first-none, not_yes, not-no}
 use Rattle.space.specs.Clear.{free_in}
 use Rattle.space.proofs.Clear.{gat_byte, taken_at, blocks_more, block-next}
@@ -73,15 +73,13 @@ max-free : (l h s m : ℕ) → max l (max (h + 1 + s) m) ≡ max l (max (h + suc
 max-free l h s m = let a : max (h + 1 + s) m ≡ max (h + suc s) (max (suc s) m) = omega arith in ap (max l) a
 
 -- one bit more, and none left
-pub bits-more : (left x : ℕ) (p q all : Seen) → all ≡ bits left x p → 0 < left → q ≡ met (eqb (x % 2) 1) p → all ≡ bits (left - 1) (x / 2) q
+pub bits-more : (n k x : ℕ) (p q all : Seen) → all ≡ bits (n - k) x p → k < n → q ≡ met (eqb (x % 2) 1) p → all ≡ bits (n - (k + 1)) (x / 2) q
 unfolding bits
-bits-more zero x p q all e h f = absurd (let z : ⊥ = omega arith in z)
-bits-more (suc left) x p q all e h f =
-    let k : left ≡ suc left - 1 = omega arith in e ∙ ap (bits left (x / 2)) (sym f) ∙ ap (λ (m : ℕ). bits m (x / 2) q) k
+bits-more n k x p q all e h f = e ∙ ap (λ (m : ℕ). bits m x p) (left-more h) ∙ ap (bits (n - (k + 1)) (x / 2)) (sym f)
 
-pub bits_none : (left x : ℕ) (p all : Seen) → all ≡ bits left x p → left ≤ 0 → p ≡ all
+pub bits_none : (n k x : ℕ) (p all : Seen) → all ≡ bits (n - k) x p → n ≤ k → p ≡ all
 unfolding bits
-bits_none left x p all e h = let q : left ≡ 0 = omega arith in sym (e ∙ ap (λ (m : ℕ). bits m x p) q)
+bits_none n k x p all e h = sym (e ∙ ap (λ (m : ℕ). bits m x p) (left-none h))
 
 -- A whole block -----------------------------------------------------------------------------------------------------------
 

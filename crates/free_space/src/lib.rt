@@ -4,7 +4,7 @@
 // which bits are clear and not on how many.
 #![tactic(auto)]
 
-ghost use Rattle.std.specs.Prelude.{◌≡◌, ◌≤◌};
+ghost use Rattle.std.specs.Prelude.{◌≡◌, ◌≤◌, IfSome};
 ghost use Rattle.meaning.specs.FreeSpace.{free_space};
 ghost use Rattle.free_space.specs.Pass.{Gat, EightBlocks, RoomLeft, BlockPassed, Tells, ended, longer, met};
 
@@ -20,22 +20,15 @@ pub struct Seen {
 }
 
 // The stretch ends.
+#[tactic(auto, unfolding(crate::specs::Pass::ended))]
 fn ended(p: Seen) -> Seen
     requires { RoomLeft 0 p }
     ensures { result ≡ ended p }
 {
-    let free = p.free + p.here;
-    if p.longest < p.here {
-        return Seen {
-            free,
-            here: 0,
-            longest: p.here,
-        };
-    }
     Seen {
-        free,
+        free: p.free + p.here,
         here: 0,
-        longest: p.longest,
+        longest: p.longest.max(p.here),
     }
 }
 
@@ -45,9 +38,8 @@ fn longer(p: Seen, n: usize) -> Seen
     ensures { result ≡ longer p n }
 {
     Seen {
-        free: p.free,
         here: p.here + n,
-        longest: p.longest,
+        ..p
     }
 }
 
@@ -56,10 +48,7 @@ fn met(taken: bool, p: Seen) -> Seen
     requires { RoomLeft 0 p }
     ensures { result ≡ met taken p }
 {
-    if taken {
-        return ended(p);
-    }
-    longer(p, 1)
+    if taken { ended(p) } else { longer(p, 1) }
 }
 
 // The granules of one block, bit by bit: so many of the lowest bits of its GAT byte.
@@ -69,11 +58,9 @@ fn each_bit(byte: usize, units: usize, p: Seen) -> Seen
 {
     let mut q = p;
     let mut x = byte;
-    let mut left = units;
-    while 0 < left {
+    for _ in 0..units {
         q = met(x % 2 == 1, q);
-        x = x >> 1;
-        left -= 1;
+        x >>= 1;
     }
     q
 }
@@ -94,19 +81,15 @@ fn block(byte: usize, units: usize, p: Seen) -> Seen
     each_bit(byte, units, p)
 }
 
-// The GAT bytes of eight blocks from block b on as one number, where there are so many and each has eight granules. Else 1, which is
-// neither that of eight free blocks nor that of eight taken ones.
-fn octet(image: &[u8], g: Geometry, b: usize) -> u64
+// The GAT bytes of eight blocks from block b on as one number, where there are so many and each has eight granules.
+fn octet(image: &[u8], g: Geometry, b: usize) -> Option<u64>
     requires { Gat g image.now × (b ≤ g.blocks) }
-    ensures { EightBlocks g image.now b result }
+    ensures { IfSome result (λ x. EightBlocks g image.now b x) }
 {
-    if g.units != 8 {
-        return 1;
+    if g.units != 8 || g.blocks < b + 8 {
+        return None;
     }
-    if g.blocks < b + 8 {
-        return 1;
-    }
-    layout::eight(image, layout::gat_at(image, g, b))
+    Some(layout::eight(image, layout::gat_at(image, g, b)))
 }
 
 // Eight bytes that are all FFH.
@@ -123,20 +106,22 @@ fn pass(image: &[u8], g: Geometry) -> Seen
         longest: 0,
     };
     let mut b = 0;
+    // a turn goes on by one block or by eight
     while b < g.blocks {
-        let x = octet(image, g, b);
-        if x == 0 {
-            seen = longer(seen, 64);
-            b += 8;
-            continue;
+        match octet(image, g, b) {
+            Some(0) => {
+                seen = longer(seen, 64);
+                b += 8;
+            }
+            Some(ALL_TAKEN) => {
+                seen = ended(seen);
+                b += 8;
+            }
+            _ => {
+                seen = block(layout::gat_byte(image, g, b), g.units, seen);
+                b += 1;
+            }
         }
-        if x == ALL_TAKEN {
-            seen = ended(seen);
-            b += 8;
-            continue;
-        }
-        seen = block(layout::gat_byte(image, g, b), g.units, seen);
-        b += 1;
     }
     ended(seen)
 }

@@ -5,5 +5,5 @@ use Rattle.free_space.proofs.met.Goals as goal
 pub returns-then-taken : goal.returns-then-taken
 returns-then-taken c = c.ended.ensures ∙ met-taken _ c.if-taken.true
 
-pub returns : goal.returns
-returns c = c.longer.ensures ∙ met-free _ c.if-taken.false
+pub returns-else-taken : goal.returns-else-taken
+returns-else-taken c = c.longer.ensures ∙ met-free _ c.if-taken.false
