@@ -17,9 +17,14 @@ pub fn allot_checked(image: &mut [u8], g: Geometry, h: Handle, k: usize, checked
         return Answer { refusal, handle: h };
     }
     let w = layout::granule_sectors(g);
-    let number = growth::grow(image, g, h.slot, k / w + 1);
+    if let Err(why) = growth::grow(image, g, h.slot, k / w + 1) {
+        return Answer {
+            refusal: refusal::carried(checked, why.number()),
+            handle: h,
+        };
+    }
     Answer {
-        refusal: refusal::carried(checked, number),
+        refusal: refusal::carried(checked, 0),
         handle: h,
     }
 }

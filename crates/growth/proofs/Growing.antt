@@ -1,14 +1,13 @@
 -- A growth turn by turn.
 use mathlib.Core.Path.{◌≡◌, refl, ap, sym, ◌∙◌, subst}
-use mathlib.Core.Logic.{◌≢◌, ◌⊎◌, ⊎_elim}
-use mathlib.Core.Bool.{Bool, true, false, not}
+use mathlib.Core.Logic.{◌≢◌, ⊎_elim}
+use mathlib.Core.Bool.{Bool, true, false}
 use mathlib.Core.List.{List}
 use Prim.Native.Nat.{ℕ, zero, suc, ◌+◌, ◌-◌, ◌*◌, ◌≤◌, ◌<◌}
 use native.Mathlib.Omega.{arith}
 use native.Mathlib.Decide.{ℕ_discrete}
 use lib.ListN.{length}
 use Rattle.meaning.specs.Layout.{taken, take_granule, field, set_field, granules, most_granules}
-use Rattle.meaning.specs.Entries.{runs}
 use Rattle.meaning.specs.Growth.{tail, lengthens, with_pair, with_extension, take_at, grown, no_slot, grow_by, and_then, fails}
 use Rattle.meaning.specs.Free.{free_granules, lowest_free, free_slot}
 use Rattle.meaning.specs.declared.Geometry.{Geometry}

@@ -10,3 +10,4 @@ pub mod Grown
 pub mod Handed
 pub mod Roomy
 pub mod Longer
+pub mod Numbers

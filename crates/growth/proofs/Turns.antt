@@ -6,14 +6,14 @@ use mathlib.Core.List.{List, [], ◌∷◌}
 use Prim.Native.Nat.{ℕ, ◌+◌, ◌-◌, ◌*◌, ◌/◌, ◌%◌, ◌≤◌, ◌<◌, max}
 use native.Mathlib.Omega.{arith}
 use native.Mathlib.Decide.{ℕ_discrete}
-use lib.ListN.{length, length-set, set, get_or, take, drop}
+use lib.ListN.{length, length-set, get_or}
 use lib.Dec.{eqb}
 use lib.Seq.{get_or-set_other, take-set-le, drop-set-lt}
 use Rattle.meaning.specs.Lists.{count, first_or}
 use Rattle.meaning.specs.Stretch.{stretch, longest_in, low_end}
-use Rattle.meaning.specs.Layout.{taken, take_granule, field, set_field, granules, gat_at, entry_at, is_slot, hit, above_ten, directory_sectors, most_blocks}
+use Rattle.meaning.specs.Layout.{taken, take_granule, field, set_field, granules, gat_at, entry_at, is_slot, directory_sectors, most_blocks}
 use Rattle.meaning.specs.Layout.{most_granules}
-use Rattle.meaning.specs.Growth.{tail, lengthens, grow_by, grown, fails, disk_or, with_pair, with_extension}
+use Rattle.meaning.specs.Growth.{tail, lengthens, grow_by, fails, disk_or, with_extension}
 use Rattle.meaning.specs.Free.{free_granules, free_slot, permitted}
 use Rattle.meaning.specs.declared.Geometry.{Geometry}
 use Rattle.lists.specs.Members
@@ -33,7 +33,6 @@ use Rattle.growth.specs.Inside.{Inside}
 use Rattle.growth.specs.Choose.{choice_by, OnlyGat, Leaves, Known, Picked}
 use Rattle.growth.specs.declared.Chosen.{Chosen}
 use Rattle.growth.proofs.Known.{known-less}
-use Rattle.growth.proofs.Stand.{Stand}
 use Rattle.growth.proofs.Step
 use Rattle.growth.proofs.Growing.{Growing, growing-start, growing-longer, growing-pair, growing-new, growing-stuck, growing-end, Pick, picked}
 use Rattle.growth.proofs.Growing.{stand-room, stand-slot, ready-slot, not_stuck}

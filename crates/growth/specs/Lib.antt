@@ -1,3 +1,4 @@
 pub mod Inside
 pub mod Choose
 pub mod Longer
+pub mod Number

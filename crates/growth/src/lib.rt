@@ -11,9 +11,31 @@ ghost use Rattle.laws.specs.Steps.{Ready};
 ghost use Rattle.layout.specs.Room.{Room, Slot};
 ghost use Rattle.growth.specs.Inside.{Inside};
 ghost use Rattle.growth.specs.Choose.{choice_by, Known, Picked, Leaves};
+ghost use Rattle.growth.specs.Number.{number, number_of};
 ghost use Rattle.growth.specs.Longer.{longer, Further};
 
 use meaning::Geometry;
+
+// Why a file gets no further granules.
+#[derive(Clone, Copy, PartialEq, Eq)]
+pub enum CannotGrow {
+    NotAllowed,
+    TooFewGranules,
+    TooFewSlots,
+}
+
+impl CannotGrow {
+    // The refusal's number.
+    pub fn number(self) -> u8
+        ensures { result ≡ number self }
+    {
+        match self {
+            CannotGrow::NotAllowed => 11,
+            CannotGrow::TooFewGranules => 9,
+            CannotGrow::TooFewSlots => 8,
+        }
+    }
+}
 
 // Where a new run starts; by the second choice, how long the stretch there is.
 #[derive(Clone, Copy)]
@@ -59,7 +81,7 @@ fn put_extension(image: &mut [u8], g: Geometry, p: usize, e: usize, x: usize, wr
     if !writes {
         return;
     }
-    let hash = layout::wide(image[layout::hit_at(image, g, p)]);
+    let hash = usize::from(image[layout::hit_at(image, g, p)]);
     layout::set_link(image, g, e, layout::HANDS_ON, x);
     let entry: [u8; 32] = [
         0x90, e as u8, 0, 0, 0, 0, 0, 0, 0, 0, 0, 0, 0, 0, 0, 0, 0, 0, 0, 0, 0, 0, 0xff, 0xff,
@@ -97,16 +119,6 @@ fn choose(image: &[u8], g: Geometry, next: usize, most: usize, lowest: bool) -> 
     }
 }
 
-// The smaller of two numbers.
-fn smaller(a: usize, b: usize) -> usize
-    ensures { (result ≤ a) × (result ≤ b) × (0 < a → 0 < b → 0 < result) }
-{
-    if a < b {
-        return a;
-    }
-    b
-}
-
 // How many granules of `left` the last run takes at once: it ends before granule `after` and has `long`, and up to 32 of them.
 fn further(image: &[u8], g: Geometry, after: usize, long: usize, left: usize) -> usize
     requires { Room g image.now }
@@ -119,13 +131,14 @@ fn further(image: &[u8], g: Geometry, after: usize, long: usize, left: usize) ->
     if total <= after {
         return 0;
     }
-    let most = smaller(left, smaller(layout::MOST_RUN - long, total - after));
+    let most = left.min((layout::MOST_RUN - long).min(total - after));
     growth_search::clear_from(image, g, after, most)
 }
 
 // k further granules for the file at slot p, whose last entry is at slot e, by 01's choice or by the second; whether that finds too few slots.
 // Those that lengthen a run are taken at once. The growth on paper and the one on the disk are this one loop: where it does not write, only
-// the GAT shows what it took.
+// the GAT shows what it took. A step takes as many granules as there are free behind the run, or one: no `for`. `lowest` is a bool as it is
+// in `choice_by`.
 fn take_granules(
     image: &mut [u8],
     g: Geometry,
@@ -169,10 +182,10 @@ fn take_granules(
             runs += 1;
             continue;
         }
-        let x = growth_search::next_slot(image, g, slot);
-        if x == 256 {
-            return true;
-        }
+        let x = match growth_search::next_slot(image, g, slot) {
+            Some(x) => x,
+            None => return true,
+        };
         put_extension(image, g, p, last, x, writes);
         put_pair(image, g, x, 0, n, writes);
         last = x;
@@ -211,33 +224,33 @@ fn no_growth(image: &[u8], g: Geometry, s: usize) -> bool
     requires { Room g image.now × Slot g image.now s }
     ensures { result ≡ no_growth g image.now s }
 {
-    (layout::field(image, g, s, layout::DAY) >> layout::NO_GROWTH) % 2 == 1
+    layout::is_set(layout::field(image, g, s, layout::DAY), layout::NO_GROWTH)
 }
 
-// The file at slot p gets what it lacks of the granules wanted, or the number of the refusal: 11, 9, 8.
-pub fn grow(image: &mut [u8], g: Geometry, p: usize, wanted: usize) -> u8
+// The file at slot p gets what it lacks of the granules wanted, or nothing is changed.
+pub fn grow(image: &mut [u8], g: Geometry, p: usize, wanted: usize) -> Result<(), CannotGrow>
     requires { Ready g image.old p }
-    ensures { (result ≡ first (cannot_grow g image.old p (lacking g image.old p wanted)))
-        × (image.new ≡ cond (accepted result) (with_granules g image.old p (lacking g image.old p wanted)) image.old) }
+    ensures { (number_of result ≡ first (cannot_grow g image.old p (lacking g image.old p wanted)))
+        × (image.new ≡ cond (accepted (number_of result)) (with_granules g image.old p (lacking g image.old p wanted)) image.old) }
 {
     let x = extent::measure(image, g, p);
     if wanted <= x.owned {
-        return 0;
+        return Ok(());
     }
     let k = wanted - x.owned;
     if no_growth(image, g, p) {
-        return 11;
+        return Err(CannotGrow::NotAllowed);
     }
     if growth_search::too_few(image, g, k) {
-        return 9;
+        return Err(CannotGrow::TooFewGranules);
     }
     if !too_few_slots(image, g, p, x.last, k, true) {
         take_granules(image, g, p, x.last, k, true, true);
-        return 0;
+        return Ok(());
     }
     if too_few_slots(image, g, p, x.last, k, false) {
-        return 8;
+        return Err(CannotGrow::TooFewSlots);
     }
     take_granules(image, g, p, x.last, k, false, true);
-    0
+    Ok(())
 }

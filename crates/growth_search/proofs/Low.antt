@@ -10,7 +10,6 @@ use Rattle.meaning.specs.Layout.{granules, taken}
 use Rattle.meaning.specs.declared.Geometry.{Geometry}
 use Rattle.lists.specs.Tests.{le-or-lt}
 use Rattle.growth_search.specs.Search.{IsClear, Stretch, AllClear, LongestFrom}
-use Rattle.growth_search.specs.declared.Found.{Found}
 
 differ : {b : Bool} → b ≡ true → b ≡ false → ⊥
 differ e q = let z : ◌≡◌ {A = ℕ} 0 1 = ap (λ (b : Bool). cond b 0 1) (sym e ∙ q) in omega arith
@@ -151,21 +150,25 @@ module _ (g : Geometry) (d : List ℕ) where
   clear-inside {r = true} w e = (w.yes refl).0
   clear-inside {r = false} w e = absurd (differ refl e)
 
-  pub clearing-start : {n many : ℕ} → ClearSoFar n many n many
-  clearing-start = record { sum = omega arith; low = omega arith; passed = λ k a b. absurd (let z : ⊥ = omega arith in z) }
+  pub clearing-start : {n many i left : ℕ} → i ≡ n → left ≡ many → ClearSoFar n many i left
+  clearing-start e f = record { sum = omega (arith, e, f); low = omega (arith, e); passed = λ k a b. absurd (let z : ⊥ = omega (arith, e) in z) }
 
-  pub clearing-step : {n many i left : ℕ} {r : Bool} → ClearSoFar n many i left → 0 < left → IsClear g d i r → not r ≡ false → ClearSoFar n many (i + 1)
-      (left - 1)
-  clearing-step {n = n} {many = many} {i = i} {left = left} {r = true} c h w e = record {
-    sum = omega (arith, c.sum);
-    low = omega (arith, c.low);
-    passed = λ k a b. go k a b (ℕ_discrete k i);
+  pub clearing-fits : {n many i left most : ℕ} → ClearSoFar n many i left → n ≤ most → granules g ≤ most → i ≤ most
+  clearing-fits {n} {many} {i} {left} {most} c h k = ⊎_elim (λ (q : i ≤ n). let z : i ≤ most = omega arith in z)
+      (λ (q : n < i). let y = (c.passed (i - 1) (omega arith) (omega arith)).0 in let z : i ≤ most = omega arith in z) (le-or-lt i n)
+
+  pub clearing-step : {n many i left i' left' : ℕ} {r : Bool} → ClearSoFar n many i left → i' ≡ i + 1 → left' + 1 ≡ left → IsClear g d i r
+      → not r ≡ false → ClearSoFar n many i' left'
+  clearing-step {n = n} {many = many} {i = i} {left = left} {r = true} c u h w e = record {
+    sum = omega (arith, c.sum, u, h);
+    low = omega (arith, c.low, u);
+    passed = λ k a b. go k a (let z : k < n + (i + 1 - n) = omega (arith, u) in z) (ℕ_discrete k i);
   }
     where
       go : (k : ℕ) → n ≤ k → k < n + (i + 1 - n) → Dec (k ≡ i) → (k < granules g) × (taken g d k ≡ false)
       go k a b (yes q) = rw q (w.yes refl)
       go k a b (no q) = let z = c.low in c.passed k a (omega arith)
-  clearing-step {r = false} c h w e = absurd (differ refl e)
+  clearing-step {r = false} c u h w e = absurd (differ refl e)
 
   pub clearing-stop : {n many i left : ℕ} {r : Bool} → ClearSoFar n many i left → 0 < left → IsClear g d i r → not r ≡ true → AllClear g d n many false
   clearing-stop {r = true} c h w e = absurd (differ e refl)

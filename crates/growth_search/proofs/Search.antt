@@ -85,8 +85,13 @@ module _ (g : Geometry) (d : List ℕ) where
   pub looking-found : {from s : ℕ} → Looking from s → free_slot g d s ≡ true → NextSlot g d from s
   looking-found w t = record { low = w.low; high = w.high; passed = w.passed; found = λ h. t }
 
-  pub looking-end : {from s : ℕ} → Looking from s → 256 ≤ s → NextSlot g d from s
-  looking-end w h = record { low = w.low; high = w.high; passed = w.passed; found = λ q. absurd (let z : ⊥ = omega arith in z) }
+  pub looking-end : {from s : ℕ} → Looking from s → 256 ≤ s → NextSlot g d from 256
+  looking-end w h = record {
+    low = omega (arith, w.low, w.high);
+    high = omega arith;
+    passed = λ n a b. w.passed n a (omega arith);
+    found = λ q. absurd (let z : ⊥ = omega arith in z);
+  }
 
   -- The tests of one granule -------------------------------------------------------------------------------------------------------
 

@@ -1,7 +1,7 @@
 // What a growth looks for: the granule and the slot that come next, and whether there are enough of both. The disk stays as it is.
 #![tactic(auto)]
 
-ghost use Rattle.std.specs.Prelude.{◌≡◌, ◌+◌, ◌*◌, ◌≤◌, ◌<◌, length, ltb};
+ghost use Rattle.std.specs.Prelude.{◌≡◌, ◌+◌, ◌*◌, ◌≤◌, ◌<◌, length, ltb, MatchOption};
 ghost use Rattle.meaning.specs.Layout.{granules, most_units};
 ghost use Rattle.meaning.specs.Free.{free_granules};
 ghost use Rattle.layout.specs.Room.{Room, Slot};
@@ -9,7 +9,8 @@ ghost use Rattle.growth_search.specs.Search.{Ends, IsClear, ClearFrom, AllClear,
 
 use meaning::Geometry;
 
-// The runs of an entry; the granule after the last of them, and how long that one is. `long` is 32 where there is none.
+// The runs of an entry; the granule after the last of them, and how long that one is. `long` is 32 where there is none: who asks wants to know
+// whether the run can get longer, and one of 32 cannot.
 #[derive(Clone, Copy)]
 pub struct Ending {
     pub runs: usize,
@@ -31,19 +32,20 @@ pub fn too_few(image: &[u8], g: Geometry, k: usize) -> bool
 {
     let mut n = 0;
     let mut b = g.blocks;
+    // eight blocks a step, and those that are left one by one
     while 8 <= b {
         if k <= n {
             return false;
         }
         b -= 8;
-        n = n + space::free_in_eight(image, g, b);
+        n += space::free_in_eight(image, g, b);
     }
     while 0 < b {
         if k <= n {
             return false;
         }
         b -= 1;
-        n = n + space::clear_bits(layout::gat_byte(image, g, b), g.units);
+        n += space::clear_bits(layout::gat_byte(image, g, b), g.units);
     }
     n < k
 }
@@ -55,6 +57,7 @@ pub fn next_free(image: &[u8], g: Geometry, from: usize) -> usize
 {
     let total = layout::granules(g);
     let mut n = from;
+    // a step is a granule or a block: no `for`
     while n < total {
         if space::block_taken(image, g, n) {
             n += g.units;
@@ -74,23 +77,20 @@ pub fn longest_from(image: &[u8], g: Geometry, from: usize, most: usize) -> Foun
     ensures { LongestFrom g image.now from most result }
 {
     let total = layout::granules(g);
-    let mut n = from;
     let mut here = 0;
     let mut low = from;
     let mut long = 0;
-    while n < total {
+    for n in from..total {
         if layout::taken(image, g, n) {
-            n += 1;
             here = 0;
             continue;
         }
-        n += 1;
         here += 1;
         if here <= long {
             continue;
         }
         long = here;
-        low = n - here;
+        low = n + 1 - here;
         if most <= long {
             return Found { low, long };
         }
@@ -98,24 +98,18 @@ pub fn longest_from(image: &[u8], g: Geometry, from: usize, most: usize) -> Foun
     Found { low, long }
 }
 
-// The first free permitted slot from `from` on.
-pub fn next_slot(image: &[u8], g: Geometry, from: usize) -> usize
+// The first free permitted slot from `from` on, if there is one.
+pub fn next_slot(image: &[u8], g: Geometry, from: usize) -> Option<usize>
     requires { Room g image.now × (from ≤ 256) }
-    ensures { NextSlot g image.now from result }
+    ensures { MatchOption result (NextSlot g image.now from 256) (λ s. NextSlot g image.now from s × (s < 256)) }
 {
     let n = layout::columns(image, g);
-    let mut s = from;
-    while s < 256 {
-        if layout::hit(image, g, s) == 0 {
-            if s % 32 < n {
-                if space::kept_columns(g, s / 32) <= s % 32 {
-                    return s;
-                }
-            }
+    for s in from..256 {
+        if layout::hit(image, g, s) == 0 && s % 32 < n && space::kept_columns(g, s / 32) <= s % 32 {
+            return Some(s);
         }
-        s += 1;
     }
-    s
+    None
 }
 
 // The runs of the entry at slot e, and where the last of them ends.
@@ -144,10 +138,7 @@ pub fn is_clear(image: &[u8], g: Geometry, n: usize) -> bool
     requires { Room g image.now }
     ensures { IsClear g image.now n result }
 {
-    if layout::granules(g) <= n {
-        return false;
-    }
-    !layout::taken(image, g, n)
+    n < layout::granules(g) && !layout::taken(image, g, n)
 }
 
 // How many granules of block b are clear from unit u on, up to the first that is taken, n at the most: a bit set behind the last ends the count.
@@ -167,6 +158,7 @@ pub fn clear_from(image: &[u8], g: Geometry, a: usize, n: usize) -> usize
     let mut b = a / g.units;
     let mut u = a % g.units;
     let mut left = n;
+    // a step is what is left of a block: no `for`
     while g.units < u + left {
         let m = units_clear(image, g, b, u, g.units - u);
         if m < g.units - u {
@@ -184,14 +176,10 @@ pub fn all_clear(image: &[u8], g: Geometry, n: usize, many: usize) -> bool
     requires { Room g image.now }
     ensures { AllClear g image.now n many result }
 {
-    let mut i = n;
-    let mut left = many;
-    while 0 < left {
-        if !is_clear(image, g, i) {
+    for met in 0..many {
+        if !is_clear(image, g, n + met) {
             return false;
         }
-        i += 1;
-        left -= 1;
     }
     true
 }

@@ -11,8 +11,10 @@ ghost use Rattle.meaning.specs.Growth.{with_granules, lacking};
 ghost use Rattle.meaning.specs.Write.{store, size_after, with_size, write_of};
 ghost use Rattle.laws.specs.Steps.{Ready};
 ghost use Rattle.read.specs.Part.{Readable, Within};
+ghost use Rattle.growth.specs.Number.{number_of};
 ghost use Rattle.write.specs.Apart.{Apart};
 
+use growth::CannotGrow;
 use meaning::{Answer, Geometry, Handle, Mode, Refusal};
 
 // The first n bytes of src go to the file from byte i on: one walk along the chain and one part a granule.
@@ -21,6 +23,7 @@ pub fn write_bytes(image: &mut [u8], g: Geometry, s: usize, i: usize, src: &[u8]
     ensures { image.new ≡ store (place g image.old s) image.old i (take n src.now) }
 {
     let mut done = 0;
+    // a step takes what is left of a granule: no `for`
     while done < n {
         let m = read::part_of(g, i + done, n - done);
         let p = seek::place(image, g, s, i + done);
@@ -35,6 +38,7 @@ pub fn clear_bytes(image: &mut [u8], g: Geometry, s: usize, i: usize, n: usize)
     ensures { image.new ≡ store (place g image.old s) image.old i (replicate n 0) }
 {
     let mut done = 0;
+    // a step takes what is left of a granule: no `for`
     while done < n {
         let m = read::part_of(g, i + done, n - done);
         let p = seek::place(image, g, s, i + done);
@@ -48,13 +52,7 @@ pub fn clear_bytes(image: &mut [u8], g: Geometry, s: usize, i: usize, n: usize)
 fn write_ranged(g: Geometry, h: Handle, n: usize, room: usize) -> bool
     ensures { result ≡ all (in_range g h ∷ leb (h.at + n) (highest g) ∷ leb n room ∷ []) }
 {
-    if !handle::in_range(g, h) {
-        return false;
-    }
-    if layout::highest(g) - h.at < n {
-        return false;
-    }
-    n <= room
+    handle::in_range(g, h) && n <= layout::highest(g) - h.at && n <= room
 }
 
 fn size_after(mode: Mode, old: usize, end: usize) -> usize
@@ -62,15 +60,8 @@ fn size_after(mode: Mode, old: usize, end: usize) -> usize
 {
     match mode {
         Mode::Sequential => end,
-        Mode::Random => { if old < end { end } else { old } }
+        Mode::Random => old.max(end),
     }
-}
-
-// How many bytes lie between the old size and the position.
-fn gap(old: usize, at: usize) -> usize
-    ensures { result ≡ at - old }
-{
-    if old < at { at - old } else { 0 }
 }
 
 // Zeros from the old size to the position, then the first n bytes of src.
@@ -80,22 +71,27 @@ fn put_record(image: &mut [u8], g: Geometry, s: usize, old: usize, at: usize, sr
     ensures { image.new ≡ store (place g image.old s)
         (store (place g image.old s) image.old old (replicate (at - old) 0)) at (take n src.now) }
 {
-    let zeros = gap(old, at);
-    clear_bytes(image, g, s, old, zeros);
+    clear_bytes(image, g, s, old, at.saturating_sub(old));
     write_bytes(image, g, s, at, src, n);
 }
 
-// The file at slot p, `old` bytes long, gets the granules of a size, or the number of the refusal. Where the old size needs as many,
-// nothing is lacking, and the chain is not walked.
-fn grow_to(image: &mut [u8], g: Geometry, p: usize, old: usize, size: usize) -> u8
+// The file at slot p, `old` bytes long, gets the granules of a size, or nothing is changed. Where the old size needs as many, nothing is
+// lacking, and the chain is not walked.
+fn grow_to(
+    image: &mut [u8],
+    g: Geometry,
+    p: usize,
+    old: usize,
+    size: usize,
+) -> Result<(), CannotGrow>
     requires { Ready g image.old p × (old ≤ granule_bytes g * length (owned g image.old p)) × (old < 16777216) × (size ≤ 33554432) }
-    ensures { (result ≡ first (cannot_grow g image.old p (lacking g image.old p (granules_for g size))))
+    ensures { (number_of result ≡ first (cannot_grow g image.old p (lacking g image.old p (granules_for g size))))
         × (image.new
-        ≡ cond (accepted result) (with_granules g image.old p (lacking g image.old p (granules_for g size))) image.old) }
+        ≡ cond (accepted (number_of result)) (with_granules g image.old p (lacking g image.old p (granules_for g size))) image.old) }
 {
     let wanted = extent::granules_for(g, size);
     if wanted <= extent::granules_for(g, old) {
-        return 0;
+        return Ok(());
     }
     growth::grow(image, g, p, wanted)
 }
@@ -137,10 +133,9 @@ pub fn write_checked(
     let old = layout::size_of(image, g, h.slot);
     let end = h.at + n;
     let size = size_after(mode, old, end);
-    let number = grow_to(image, g, h.slot, old, size);
-    if number != 0 {
+    if let Err(why) = grow_to(image, g, h.slot, old, size) {
         return Answer {
-            refusal: refusal::carried(checked, number),
+            refusal: refusal::carried(checked, why.number()),
             handle: h,
         };
     }

@@ -1,6 +1,7 @@
-use Prim.Native.Nat.{◌<◌, ◌/◌, ◌^◌}
+use Rattle.meaning.specs.Refusal.{carried}
+use Prim.Native.Nat.{ℕ, ◌<◌, ◌/◌, ◌^◌}
 use Rattle.lists.specs.Sizes.{width-lt}
-use mathlib.Core.Path.{refl}
+use mathlib.Core.Path.{refl, ap, ◌∙◌}
 use native.Mathlib.Omega.{arith}
 use Rattle.growth.proofs.Handed.{ready}
 use Rattle.allot.proofs.Allotting.{refused, grew}
@@ -15,11 +16,15 @@ overflow_add-k c = let w = c.granule_sectors-w in let q : c.args.k / w.result < 
     c.args.k (2 ^ 63) (omega (arith, w.ensures.some)) in
     omega arith
 
-pub grow-number-requires : goal.grow-number-requires
-grow-number-requires c = let a = c.args in ready a.g a.image.now a.h c.sector_ranged-ranged.result 4
-    refl c.in_default.ensures
+pub grow-requires : goal.grow-requires
+grow-requires c = let a = c.args in ready a.g a.image.now a.h c.sector_ranged-ranged.result 4 refl c.in_default.ensures
+
+pub returns-in-Err-grow : goal.returns-in-Err-grow
+returns-in-Err-grow c = let e = c.in-Err-grow.ensures in
+    grew _ _ _ _ c.sector_ranged-ranged.ensures c.granule_sectors-w.ensures.is
+    (handed _ _ _ c.requires (c.carried.ensures ∙ ap (λ (k : ℕ). carried c.args.checked k) c.number.ensures)) refl c.in_default.ensures e.0 e.1
 
 pub returns : goal.returns
-returns c = let grow = c.grow-number in let granule-sectors = c.granule_sectors-w in let sector-ranged = c.sector_ranged-ranged in let p = c.requires in
-    grew _ _ _ _ sector-ranged.ensures granule-sectors.ensures.is (handed _ _ _ p c.carried.ensures) refl c.in_default.ensures
-    grow.ensures.0 grow.ensures.1
+returns c = let e = c.in_default-grow.ensures in
+    grew _ _ _ _ c.sector_ranged-ranged.ensures c.granule_sectors-w.ensures.is (handed _ _ _ c.requires c.carried-2.ensures) refl
+    c.in_default.ensures e.0 e.1

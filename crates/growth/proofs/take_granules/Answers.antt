@@ -1,3 +1,4 @@
+use mathlib.Core.Path.{refl}
 use Rattle.growth.proofs.Growing.{tail-slot}
 use Rattle.growth.proofs.Longer.{turn-further}
 use Rattle.growth.proofs.Turns.{turning-start, turn-shut, turn-picked, turn-asks, turn-pair, turn-new, turn-stuck, turn_end, at_last}
@@ -75,29 +76,26 @@ loop-left-preserved-then-runs-lt-PAIRS c = turn-pair _ _ _ c.loop-left.invariant
     c.loop-left-test.true
     c.choose-c.ensures) c.put_pair.ensures
 
-pub next_slot-x-requires : goal.next_slot-x-requires
-next_slot-x-requires c = let l = c.loop-left in (l.invariant.room, l.invariant.growing.slot-low)
+pub next_slot-requires : goal.next_slot-requires
+next_slot-requires c = let l = c.loop-left in (l.invariant.room, l.invariant.growing.slot-low)
 
-pub shape_of-image-then-x-eq256 : goal.shape_of-image-then-x-eq256
-shape_of-image-then-x-eq256 c = let l = c.loop-left in l.invariant.same-long
-
-pub returns-then-x-eq256 : goal.returns-then-x-eq256
-returns-then-x-eq256 c = turn-stuck _ _ _ c.loop-left.invariant
+pub returns-in-None : goal.returns-in-None
+returns-in-None c = turn-stuck _ _ _ c.loop-left.invariant
     c.loop-left-test.true
     c.requires.3
     (turn-shut _ _ _ c.loop-left.invariant
     (c.further-m.ensures.none
     c.loop-left-test.true
     (let z = c.if-m-gt0.false in omega arith))) c.if-runs-lt-PAIRS.false
-    c.next_slot-x.ensures c.if-x-eq256.true
+    c.in-None.ensures refl
 
 pub put_extension-requires : goal.put_extension-requires
-put_extension-requires c = let l = c.loop-left in new-places _ _ _ l.invariant c.next_slot-x.ensures c.if-x-eq256.false
+put_extension-requires c = let l = c.loop-left in new-places _ _ _ l.invariant c.in-Some.ensures.0 (let z = c.in-Some.ensures.1 in λ q. omega (arith, q))
 
 pub put_pair-requires-in-loop-left : goal.put_pair-requires-in-loop-left
 put_pair-requires-in-loop-left c = (
   at_new _ _ _ c.loop-left.invariant
-      c.next_slot-x.ensures c.if-x-eq256.false
+      c.in-Some.ensures.0 (let z = c.in-Some.ensures.1 in λ q. omega (arith, q))
       (turn-picked _ _ _ c.loop-left.invariant c.loop-left-test.true
       c.choose-c.ensures).inside
       c.put_extension.ensures,
@@ -105,14 +103,13 @@ put_pair-requires-in-loop-left c = (
 )
 
 pub overflow_add-slot : goal.overflow_add-slot
-overflow_add-slot c = let q = c.next_slot-x.ensures.high in omega arith
+overflow_add-slot c = let q = c.in-Some.ensures.1 in omega arith
 
 pub loop-left-preserved : goal.loop-left-preserved
 loop-left-preserved c = turn-new _ _ _
     c.loop-left.invariant c.loop-left-test.true
     (turn-shut _ _ _ c.loop-left.invariant (c.further-m.ensures.none c.loop-left-test.true (let z = c.if-m-gt0.false in omega arith))) c.if-runs-lt-PAIRS.false
-    (turn-picked _ _ _ c.loop-left.invariant c.loop-left-test.true c.choose-c.ensures) c.next_slot-x.ensures
-    c.if-x-eq256.false
+    (turn-picked _ _ _ c.loop-left.invariant c.loop-left-test.true c.choose-c.ensures) c.in-Some.ensures.0 (let z = c.in-Some.ensures.1 in λ q. omega (arith, q))
     c.put_extension.ensures c.put_pair-in-loop-left.ensures
 
 pub shape_of-image : goal.shape_of-image

@@ -1,5 +1,4 @@
 use Rattle.growth_search.proofs.Low.{low-start, low-taken, low-shorter, low-longer, low-found, low-done}
-use Prim.Native.Nat.{◌-◌}
 use mathlib.Core.Path.{sym, ◌∙◌}
 use native.Mathlib.Omega.{arith}
 use Rattle.growth_search.proofs.longest_from.Goals as goal
@@ -10,26 +9,14 @@ loop-n-init c = low-start _ _ c.requires.1
 pub taken-requires : goal.taken-requires
 taken-requires c = (c.requires.0, let e = c.granules-total.ensures.0 in omega arith)
 
-pub overflow_add-n : goal.overflow_add-n
-overflow_add-n c = let m = c.requires.0.most in let e = c.granules-total.ensures.0 in let t = c.loop-n-test.true in omega arith
-
-pub loop-n-smaller-then-taken : goal.loop-n-smaller-then-taken
-loop-n-smaller-then-taken c = let t = c.loop-n-test.true in omega arith
-
 pub loop-n-preserved-then-taken : goal.loop-n-preserved-then-taken
 loop-n-preserved-then-taken c = low-taken _ _ c.loop-n.invariant
     (let e = c.granules-total.ensures.0 in let t = c.loop-n-test.true in omega arith)
     (sym c.taken.ensures ∙ c.if-taken.true)
 
-pub overflow_add-n-in-loop-n : goal.overflow_add-n-in-loop-n
-overflow_add-n-in-loop-n c = let m = c.requires.0.most in let e = c.granules-total.ensures.0 in let t = c.loop-n-test.true in omega arith
-
 pub overflow_add-here : goal.overflow_add-here
 overflow_add-here c = let s = c.loop-n.invariant.start in let m = c.requires.0.most in let e = c.granules-total.ensures.0 in
     let t = c.loop-n-test.true in omega arith
-
-pub loop-n-smaller-then-here-long : goal.loop-n-smaller-then-here-long
-loop-n-smaller-then-here-long c = let t = c.loop-n-test.true in omega arith
 
 pub loop-n-preserved-then-here-long : goal.loop-n-preserved-then-here-long
 loop-n-preserved-then-here-long c = low-shorter _ _ c.loop-n.invariant
@@ -43,9 +30,6 @@ pub returns-then-most-long : goal.returns-then-most-long
 returns-then-most-long c = low-found _ _ (low-longer _ _ c.loop-n.invariant
     (let e = c.granules-total.ensures.0 in let t = c.loop-n-test.true in omega
     arith) (sym c.taken.ensures ∙ c.if-taken.false) c.if-here-long.false) c.if-most-long.true
-
-pub loop-n-smaller : goal.loop-n-smaller
-loop-n-smaller c = let t = c.loop-n-test.true in omega arith
 
 pub loop-n-preserved : goal.loop-n-preserved
 loop-n-preserved c = low-longer _ _ c.loop-n.invariant

@@ -1,9 +1,5 @@
 use Rattle.growth_search.proofs.Low.{Low}
-use Prim.Native.Nat.{◌-◌}
 use Rattle.growth_search.proofs.longest_from.Given as goal
 
 abbrev pub invariant-loop-n : goal.invariant-loop-n
 invariant-loop-n l = Low l.g l.image l.from l.n l.here l.low l.long
-
-abbrev pub decreases-loop-n : goal.decreases-loop-n
-decreases-loop-n l = l.total - l.n

@@ -1,6 +1,5 @@
 use Rattle.growth_search.proofs.Search.{passing-start, passing_step, passing-block, passing-found, passing-end}
 use Rattle.lists.specs.Tests.{is-false, is-true}
-use Prim.Native.Nat.{◌-◌}
 use mathlib.Core.Path.{sym, ◌∙◌}
 use native.Mathlib.Omega.{arith}
 use Rattle.growth_search.proofs.next_free.Goals as goal

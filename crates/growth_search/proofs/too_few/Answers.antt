@@ -1,7 +1,6 @@
 use Rattle.space.proofs.Clear.{freed-start, freed-more, freed-step}
 use Rattle.growth_search.proofs.Enough.{enough, fewer}
 use native.Mathlib.Omega.{arith}
-use Prim.Native.Nat.{◌-◌}
 use Rattle.growth_search.proofs.too_few.Goals as goal
 
 pub loop-b-init : goal.loop-b-init

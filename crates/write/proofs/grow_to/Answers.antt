@@ -1,6 +1,7 @@
 use Rattle.lists.specs.Sizes.{round-least, bytes_pos}
 use Rattle.growth.proofs.Whole.{Whole, whole-none}
 use Rattle.meaning.specs.Growth.{lacking}
+use Rattle.growth.specs.Number.{number_of}
 use Prim.Native.Nat.{ℕ}
 use mathlib.Core.Path.{subst}
 use native.Mathlib.Omega.{arith}
@@ -13,5 +14,5 @@ returns-then-wanted-granules_for c = whole-none c.args.g c.args.image.now
 
 pub returns : goal.returns
 returns c = let granules-for = c.granules_for-wanted in let a = c.args in
-    subst (λ (w : ℕ). Whole a.g a.image.now a.p (lacking a.g a.image.now a.p w) c.grow.result
+    subst (λ (w : ℕ). Whole a.g a.image.now a.p (lacking a.g a.image.now a.p w) (number_of c.grow.result)
     c.grow.new.image) granules-for.ensures c.grow.ensures

@@ -1,10 +1,12 @@
+use Rattle.meaning.specs.Refusal.{carried}
+use Rattle.growth.proofs.Numbers.{not-zero}
 use Rattle.write.proofs.Calls.{refused, not-grown, written, fit, stores, sized, old-fits, size_is, number_is, image-is, sizes-low, old-owned}
 use Rattle.growth.proofs.Handed.{ready}
 use Rattle.passed.proofs.Checked.{passed, checked-room, handed}
 use Rattle.meaning.specs.Refusals.{protected}
-use Prim.Native.Nat.{◌+◌}
+use Prim.Native.Nat.{ℕ, ◌+◌}
 use mathlib.Core.List.{[], ◌∷◌}
-use mathlib.Core.Path.{refl}
+use mathlib.Core.Path.{refl, ap, ◌∙◌}
 use native.Mathlib.Omega.{arith}
 use Rattle.write.proofs.write_checked.Goals as goal
 
@@ -24,8 +26,8 @@ overflow_add-end c = let args = c.args in let the-write-ranged = c.write_ranged-
     let a = f.ends in
     omega arith
 
-pub grow_to-number-requires : goal.grow_to-number-requires
-grow_to-number-requires c = let args = c.args in let the-write-ranged = c.write_ranged-ranged in
+pub grow_to-requires : goal.grow_to-requires
+grow_to-requires c = let args = c.args in let the-write-ranged = c.write_ranged-ranged in
     let the-size-of = c.size_of-old in
     let y = ready args.g args.image.now args.h the-write-ranged.result 4 refl c.in_default.ensures in
     let f = fit args.g args.image.now args.mode args.h args.n args.buffer.now the-write-ranged.ensures refl c.in_default.ensures in
@@ -34,28 +36,25 @@ grow_to-number-requires c = let args = c.args in let the-write-ranged = c.write_
     let z = sizes-low args.mode the-size-of.result (args.h.at + args.n) in
     let s = c.size_after-size.ensures in (y, old-owned args.g args.image.now args.h.slot y the-size-of.ensures.is, b, omega arith)
 
-pub returns-then-number-ne0 : goal.returns-then-number-ne0
-returns-then-number-ne0 c = let a = c.args in let the-write-ranged = c.write_ranged-ranged in let the-size-of = c.size_of-old in
-    let the-size-after = c.size_after-size in let p = c.requires in
-    let the-grow-to = c.grow_to-number in
-    let s = size_is a.g a.image.now a.mode a.h a.n a.buffer.now the-write-ranged.ensures the-size-of.ensures.is
-    the-size-after.ensures in
-    not-grown a.g a.image.now a.mode a.h a.n a.buffer.now the-write-ranged.ensures (handed _ _ _ p c.carried.ensures)
-    refl c.in_default.ensures (number_is a.g a.image.now a.mode a.h a.n a.buffer.now the-write-ranged.ensures s
-    the-grow-to.ensures.0) c.if-number-ne0.true (image-is a.g a.image.now a.mode a.h a.n a.buffer.now the-write-ranged.ensures
-    the-grow-to.result s the-grow-to.ensures.1)
+pub returns-in-Err-grow_to : goal.returns-in-Err-grow_to
+returns-in-Err-grow_to c = let a = c.args in let ranged = c.write_ranged-ranged.ensures in let e = c.in-Err-grow_to.ensures in
+    let s = size_is a.g a.image.now a.mode a.h a.n a.buffer.now ranged c.size_of-old.ensures.is c.size_after-size.ensures in
+    not-grown a.g a.image.now a.mode a.h a.n a.buffer.now ranged
+    (handed _ _ _ c.requires (c.carried.ensures ∙ ap (λ (k : ℕ). carried a.checked k) c.number.ensures)) refl c.in_default.ensures
+    (number_is a.g a.image.now a.mode a.h a.n a.buffer.now ranged s e.0) (not-zero _)
+    (image-is a.g a.image.now a.mode a.h a.n a.buffer.now ranged _ s e.1)
 
 pub put_record-requires : goal.put_record-requires
 put_record-requires c = let a = c.args in let the-write-ranged = c.write_ranged-ranged in let the-size-of = c.size_of-old in
     let the-size-after = c.size_after-size in
-    let the-grow-to = c.grow_to-number in let s = size_is a.g a.image.now a.mode a.h a.n a.buffer.now the-write-ranged.ensures the-size-of.ensures.is
+    let the-grow-to = c.in_default-grow_to in let s = size_is a.g a.image.now a.mode a.h a.n a.buffer.now the-write-ranged.ensures the-size-of.ensures.is
     the-size-after.ensures in
     let y = ready a.g a.image.now a.h the-write-ranged.result 4 refl c.in_default.ensures in
     let f = fit a.g a.image.now a.mode a.h a.n a.buffer.now the-write-ranged.ensures refl c.in_default.ensures
     in
     let w = stores a.g a.image.now a.mode a.h a.n a.buffer.now the-write-ranged.ensures y f (number_is a.g a.image.now
-    a.mode a.h a.n a.buffer.now the-write-ranged.ensures s the-grow-to.ensures.0) c.if-number-ne0.false (image-is a.g
-    a.image.now a.mode a.h a.n a.buffer.now the-write-ranged.ensures the-grow-to.result s the-grow-to.ensures.1) s in (
+    a.mode a.h a.n a.buffer.now the-write-ranged.ensures s the-grow-to.ensures.0) refl (image-is a.g
+    a.image.now a.mode a.h a.n a.buffer.now the-write-ranged.ensures 0 s the-grow-to.ensures.1) s in (
       w.file,
       w.apart,
       w.owns,
@@ -68,26 +67,26 @@ put_record-requires c = let a = c.args in let the-write-ranged = c.write_ranged-
 pub put_size-requires : goal.put_size-requires
 put_size-requires c = let a = c.args in let the-write-ranged = c.write_ranged-ranged in let the-size-of = c.size_of-old in
     let the-size-after = c.size_after-size in
-    let the-grow-to = c.grow_to-number in let the-if2 = c.if-number-ne0 in
+    let the-grow-to = c.in_default-grow_to in
     let s = size_is a.g a.image.now a.mode a.h a.n a.buffer.now the-write-ranged.ensures the-size-of.ensures.is
     the-size-after.ensures in
     let y = ready a.g a.image.now a.h the-write-ranged.result 4 refl c.in_default.ensures in
     let f = fit a.g a.image.now a.mode a.h a.n a.buffer.now the-write-ranged.ensures refl c.in_default.ensures
     in
     let w = stores a.g a.image.now a.mode a.h a.n a.buffer.now the-write-ranged.ensures y f (number_is a.g a.image.now
-    a.mode a.h a.n a.buffer.now the-write-ranged.ensures s the-grow-to.ensures.0) the-if2.false (image-is a.g a.image.now
-    a.mode a.h a.n a.buffer.now the-write-ranged.ensures the-grow-to.result s the-grow-to.ensures.1) s in
+    a.mode a.h a.n a.buffer.now the-write-ranged.ensures s the-grow-to.ensures.0) refl (image-is a.g a.image.now
+    a.mode a.h a.n a.buffer.now the-write-ranged.ensures 0 s the-grow-to.ensures.1) s in
     sized a.g a.image.now a.mode a.h a.n a.buffer.now the-write-ranged.ensures _ _ _ _ _ w
     c.put_record.ensures
 
 pub returns : goal.returns
 returns c = let a = c.args in let the-write-ranged = c.write_ranged-ranged in let the-size-of = c.size_of-old in
     let the-size-after = c.size_after-size in let p = c.requires in
-    let the-grow-to = c.grow_to-number in let the-if2 = c.if-number-ne0 in let the-put-record = c.put_record in
+    let the-grow-to = c.in_default-grow_to in let the-put-record = c.put_record in
     let s = size_is a.g a.image.now a.mode a.h a.n a.buffer.now the-write-ranged.ensures the-size-of.ensures.is
     the-size-after.ensures in
     written a.g a.image.now a.mode a.h a.n a.buffer.now the-write-ranged.ensures (handed _ _ 0 p c.carried-2.ensures)
     the-size-of.ensures.is refl c.in_default.ensures (number_is a.g a.image.now a.mode a.h a.n a.buffer.now
-    the-write-ranged.ensures s the-grow-to.ensures.0) the-if2.false (image-is a.g a.image.now a.mode a.h a.n a.buffer.now
-    the-write-ranged.ensures the-grow-to.result s the-grow-to.ensures.1) s the-put-record.ensures
+    the-write-ranged.ensures s the-grow-to.ensures.0) refl (image-is a.g a.image.now a.mode a.h a.n a.buffer.now
+    the-write-ranged.ensures 0 s the-grow-to.ensures.1) s the-put-record.ensures
     c.put_size.ensures
