@@ -16,13 +16,7 @@ pub const NO_DRIVE: usize = 2;
 pub fn of_disk(number: u8) -> bool
     ensures { result ≡ of_disk number }
 {
-    if number == 1 {
-        return true;
-    }
-    if number < 21 {
-        return false;
-    }
-    number <= 30
+    matches!(number, 1 | 21..=30)
 }
 
 // A refusal of the call on drive n, naming the drive where it is of its disk.
@@ -30,38 +24,34 @@ pub fn naming(n: usize, c: Refusal) -> Refusal
     ensures { result ≡ naming' n c }
 {
     if !of_disk(c.number) {
-        return c;
+        c
+    } else if n == 0 {
+        refusal::naming(1, c)
+    } else {
+        refusal::naming(2, c)
     }
-    if n == 0 {
-        return refusal::naming(1, c);
-    }
-    refusal::naming(2, c)
 }
 
 // The drive that a refusal names.
 pub fn fault_drive(c: Refusal) -> usize
     ensures { result ≡ fault_drive c }
 {
-    if c.image == 0 {
-        return NO_DRIVE;
+    match c.image {
+        0 => NO_DRIVE,
+        1 => 0,
+        _ => 1,
     }
-    if c.image == 1 {
-        return 0;
-    }
-    1
 }
 
 // What both checks answered: drive 0's before drive 1's.
 pub fn of_both(c: Refusal, c2: Refusal) -> Refusal
     ensures { result ≡ of_both c c2 }
 {
-    if c.number != 0 {
-        return naming(0, c);
+    match (c.number, c2.number) {
+        (0, 0) => refusal::unplaced(0),
+        (0, _) => naming(1, c2),
+        _ => naming(0, c),
     }
-    if c2.number != 0 {
-        return naming(1, c2);
-    }
-    refusal::unplaced(0)
 }
 
 pub fn no_such_drive() -> Refusal
@@ -74,10 +64,7 @@ pub fn no_such_drive() -> Refusal
 pub fn drive_of(n: usize, c: Refusal) -> usize
     ensures { result ≡ drive_of n c }
 {
-    if c.number != 0 {
-        return 0;
-    }
-    n
+    if c.number == 0 { n } else { 0 }
 }
 
 // What look up answered on drive n, after `before` entries were compared on the drive asked before.

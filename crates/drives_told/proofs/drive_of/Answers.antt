@@ -1,10 +1,12 @@
-use Rattle.drives_told.proofs.DriveTold.{told_none, told-it}
+use Rattle.std.proofs.Common.{arith}
+use Rattle.std.proofs.lemmas.Grind.{common_steps}
+use Rattle.drives.specs.Pair.{drive_of}
 use Rattle.drives_told.proofs.drive_of.Goals as goal
 
--- src/lib.rt:85:9
-pub returns-then-c-ne0 : goal.returns-then-c-ne0
-returns-then-c-ne0 c = told_none _ _ c.if-c-ne0.true
+pub returns-then-c-eq0 : goal.returns-then-c-eq0
+unfolding drive_of
+returns-then-c-eq0 c = grind (arith, common_steps)
 
--- src/lib.rt:81:1
-pub returns : goal.returns
-returns c = told-it _ _ c.if-c-ne0.false
+pub returns-else-c-eq0 : goal.returns-else-c-eq0
+unfolding drive_of
+returns-else-c-eq0 c = grind (arith, common_steps)

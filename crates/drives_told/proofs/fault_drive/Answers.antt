@@ -1,14 +1,16 @@
-use Rattle.drives_told.proofs.DriveTold.{fault-none, fault-first, fault-second}
+use Rattle.std.proofs.Common.{arith}
+use Rattle.std.proofs.lemmas.Grind.{common_steps}
+use Rattle.drives.specs.Pair.{fault_drive}
 use Rattle.drives_told.proofs.fault_drive.Goals as goal
 
--- src/lib.rt:53:9
-pub returns-then-c-eq0 : goal.returns-then-c-eq0
-returns-then-c-eq0 c = fault-none _ c.if-c-eq0.true
+pub returns-in-0 : goal.returns-in-0
+unfolding fault_drive
+returns-in-0 c = grind (arith, common_steps)
 
--- src/lib.rt:56:9
-pub returns-then-c-eq1 : goal.returns-then-c-eq1
-returns-then-c-eq1 c = fault-first _ c.if-c-eq0.false c.if-c-eq1.true
+pub returns-in-1 : goal.returns-in-1
+unfolding fault_drive
+returns-in-1 c = grind (arith, common_steps)
 
--- src/lib.rt:49:1
-pub returns : goal.returns
-returns c = fault-second _ c.if-c-eq0.false c.if-c-eq1.false
+pub returns-in_default : goal.returns-in_default
+unfolding fault_drive
+returns-in_default c = grind (arith, common_steps)

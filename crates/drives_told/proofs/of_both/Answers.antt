@@ -1,14 +1,16 @@
-use Rattle.drives_told.proofs.DriveTold.{of-first, of-second, of-neither}
+use Rattle.std.proofs.Common.{arith}
+use Rattle.std.proofs.lemmas.Grind.{common_steps}
+use Rattle.drives.specs.Pair.{of_both}
 use Rattle.drives_told.proofs.of_both.Goals as goal
 
--- src/lib.rt:66:9
-pub returns-then-c-ne0 : goal.returns-then-c-ne0
-returns-then-c-ne0 c = of-first _ _ c.if-c-ne0.true c.naming.ensures
+pub returns-in-0-eq0 : goal.returns-in-0-eq0
+unfolding of_both
+returns-in-0-eq0 c = grind (arith, common_steps)
 
--- src/lib.rt:69:9
-pub returns-then-c2-ne0 : goal.returns-then-c2-ne0
-returns-then-c2-ne0 c = of-second _ _ c.if-c-ne0.false c.if-c2-ne0.true c.naming-then-c2-ne0.ensures
+pub returns-in-0-default : goal.returns-in-0-default
+unfolding of_both
+returns-in-0-default c = grind (arith, common_steps)
 
--- src/lib.rt:62:1
-pub returns : goal.returns
-returns c = of-neither _ _ c.if-c-ne0.false c.if-c2-ne0.false c.unplaced.ensures
+pub returns-in_default : goal.returns-in_default
+unfolding of_both
+returns-in_default c = grind (arith, common_steps)

@@ -1,14 +1,21 @@
-use Rattle.drives_told.proofs.DriveTold.{geometry-number, under-faults, from-faults}
+use Rattle.std.proofs.Common.{arith}
+use Rattle.std.proofs.lemmas.Grind.{common_steps}
+use Rattle.meaning.specs.Lists.{all, any}
+use Rattle.drives.specs.Pair.{of_disk}
 use Rattle.drives_told.proofs.of_disk.Goals as goal
 
--- src/lib.rt:27:9
-pub returns-then-number-eq1 : goal.returns-then-number-eq1
-returns-then-number-eq1 c = geometry-number _ c.if-number-eq1.true
+pub returns-in_default : goal.returns-in_default
+unfolding of_disk all any
+returns-in_default c = grind (arith, common_steps)
 
--- src/lib.rt:30:9
-pub returns-then-number-lt21 : goal.returns-then-number-lt21
-returns-then-number-lt21 c = under-faults _ c.if-number-eq1.false c.if-number-lt21.true
+pub returns-in_default-2 : goal.returns-in_default-2
+unfolding of_disk all any
+returns-in_default-2 c = grind (arith, common_steps)
 
--- src/lib.rt:23:1
-pub returns : goal.returns
-returns c = from-faults _ c.if-number-eq1.false c.if-number-lt21.false
+pub returns-in-1 : goal.returns-in-1
+unfolding of_disk all any
+returns-in-1 c = grind (arith, common_steps)
+
+pub returns-in-1-2 : goal.returns-in-1-2
+unfolding of_disk all any
+returns-in-1-2 c = grind (arith, common_steps)
