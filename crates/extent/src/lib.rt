@@ -17,7 +17,7 @@ pub struct Extent {
     pub owned: usize,
 }
 
-// How many granules that many bytes need.
+// How many granules that many bytes need. (The library's quotient rounded up is of Rust 1.73; the crates are built by older ones too.)
 pub fn granules_for(g: Geometry, n: usize) -> usize
     requires { n ≤ 33554432 }
     ensures { result ≡ granules_for g n }

@@ -146,8 +146,8 @@ pub fn free_chain(image: &mut [u8], g: Geometry, s: usize, most: usize)
     }
 }
 
-// Clears the entries of a file from the one at slot s on. Each is left by what its marker and link said before: so this walk is not that of
-// `free_chain`, which reads an entry after it was worked on.
+// Clears the entries of a file from the one at slot s on. Each is left by what its marker and link said before. The walk is that of `free_chain`
+// but for that; one walk over a closure would have to say of any step what it keeps of the entries and what all steps make, and be no plainer.
 pub fn kill_chain(image: &mut [u8], g: Geometry, s: usize, most: usize)
     requires { Walkable g image.old × Used g image.old s }
     ensures { image.new ≡ through (kill_entry g) image.old (chain_from g image.old most s) }

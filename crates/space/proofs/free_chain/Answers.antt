@@ -63,8 +63,5 @@ loop-preserved c = let e = unchained-same _ c.requires.0
     c.requires.0.room e _ 0x1f
     c.loop.invariant.used.slot (omega arith))
 
-pub shape_of-image : goal.shape_of-image
-shape_of-image c = c.loop.invariant.same.long
-
 pub returns : goal.returns
 returns c = unchaining-end _ c.loop.invariant c.loop-test.false

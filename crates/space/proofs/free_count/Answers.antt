@@ -7,15 +7,6 @@ use Rattle.space.proofs.free_count.Goals as goal
 pub loop-b-init : goal.loop-b-init
 loop-b-init c = (omega arith, omega arith, freed-start _ _)
 
-pub free_in_eight-n-requires : goal.free_in_eight-n-requires
-free_in_eight-n-requires c = (c.requires, omega arith)
-
-pub overflow_add-n : goal.overflow_add-n
-overflow_add-n c = let r = c.requires in let k = c.free_in_eight-n.ensures.1 in omega arith
-
-pub loop-b-smaller : goal.loop-b-smaller
-loop-b-smaller c = omega arith
-
 pub loop-b-preserved : goal.loop-b-preserved
 loop-b-preserved c = (
   omega arith,
@@ -23,24 +14,6 @@ loop-b-preserved c = (
   freed-more _ _ 8 c.loop-b.invariant.2 (omega arith)
       c.free_in_eight-n.ensures.0,
 )
-
-pub loop-b-2-init : goal.loop-b-2-init
-loop-b-2-init c = c.loop-b.invariant
-
-pub overflow_sub-b-in-loop-b-2 : goal.overflow_sub-b-in-loop-b-2
-overflow_sub-b-in-loop-b-2 c = omega arith
-
-pub gat_byte-requires : goal.gat_byte-requires
-gat_byte-requires c = let r = c.requires in omega arith
-
-pub clear_bits-n-requires : goal.clear_bits-n-requires
-clear_bits-n-requires c = c.requires.units-high
-
-pub overflow_add-n-in-loop-b-2 : goal.overflow_add-n-in-loop-b-2
-overflow_add-n-in-loop-b-2 c = let r = c.requires in let k = c.clear_bits-n.ensures.1 in omega arith
-
-pub loop-b-2-smaller : goal.loop-b-2-smaller
-loop-b-2-smaller c = omega arith
 
 pub loop-b-2-preserved : goal.loop-b-2-preserved
 loop-b-2-preserved c = (

@@ -10,22 +10,19 @@ overflow_cast-result c = let q = eight-free c.args.g
     c.args.image.now c.requires.0.units-low
     c.requires.0.units-high c.args.b _
     c.gat_at.ensures
-    (let r = c.requires in let a = c.gat_at.ensures in omega arith) (λ i. omega
-    (arith, c.shared_slice_known-1.given i)) c.eight-x.ensures
+    (let r = c.requires in let a = c.gat_at.ensures in omega arith) (λ i. omega (arith, c.type_inv.image i)) c.eight-x.ensures
     c.mask.ensures.is in let r = c.requires in omega arith
 
 pub overflow_sub-result : goal.overflow_sub-result
 overflow_sub-result c = let q = eight-free c.args.g c.args.image.now
     c.requires.0.units-low c.requires.0.units-high
     c.args.b _ c.gat_at.ensures
-    (let r = c.requires in let a = c.gat_at.ensures in omega arith) (λ i. omega
-    (arith, c.shared_slice_known-1.given i)) c.eight-x.ensures
+    (let r = c.requires in let a = c.gat_at.ensures in omega arith) (λ i. omega (arith, c.type_inv.image i)) c.eight-x.ensures
     c.mask.ensures.is in omega arith
 
 pub returns : goal.returns
 returns c = let q = eight-free c.args.g c.args.image.now
     c.requires.0.units-low c.requires.0.units-high
     c.args.b _ c.gat_at.ensures
-    (let r = c.requires in let a = c.gat_at.ensures in omega arith) (λ i. omega
-    (arith, c.shared_slice_known-1.given i)) c.eight-x.ensures
+    (let r = c.requires in let a = c.gat_at.ensures in omega arith) (λ i. omega (arith, c.type_inv.image i)) c.eight-x.ensures
     c.mask.ensures.is in let r = c.requires in (omega arith, omega arith)

@@ -37,8 +37,5 @@ loop-preserved c = let kill-entry = c.kill_entry in let field2 = c.field-link in
     let loop-test = c.loop-test in let l = c.loop in let p = c.requires in
     clearing-step _ p.0 l.invariant loop-test.true kill-entry.ensures field.ensures.is field2.ensures.is c.if-marker-ne-HANDS_ON.false
 
-pub shape_of-image : goal.shape_of-image
-shape_of-image c = c.loop.invariant.kept.long
-
 pub returns : goal.returns
 returns c = clearing-end _ c.loop.invariant c.loop-test.false
