@@ -13,6 +13,7 @@ ghost use Rattle.load_record.specs.Program.{Program, broken, Looked, Found};
 use load::{Item, Loaded, NextRecord};
 use meaning::{Geometry, Handle, Refusal};
 
+// The codes of a program's items: numbers and no enum, since `load::Item` and `load::NextRecord` have them as numbers.
 const DATA: usize = 1;
 
 const START: usize = 2;
@@ -34,12 +35,13 @@ pub fn byte_at(image: &[u8], g: Geometry, s: usize, size: usize, i: usize) -> us
     ensures { Read (get_or (bytes_of g image.now s) i 0) result }
 {
     let p = seek::place(image, g, s, i);
-    layout::wide(image[p])
+    usize::from(image[p])
 }
 
 fn is_code(c: usize) -> bool
     ensures { result ≡ is_code c }
 {
+    // `||` and `matches!` leave goals whose steps have no name to cite
     if c == DATA {
         return true;
     }
@@ -52,10 +54,7 @@ fn is_code(c: usize) -> bool
 fn bad_count(c: usize, n: usize) -> bool
     ensures { result ≡ bad_count c n }
 {
-    if c != START {
-        return false;
-    }
-    n != 2
+    c == START && n != 2
 }
 
 // How many bytes follow code c and count n.
@@ -122,10 +121,7 @@ pub fn item(image: &[u8], g: Geometry, s: usize, size: usize, i: usize) -> Item
 fn place_after(code: usize, behind: usize, i: usize) -> usize
     ensures { result ≡ cond (eqb code data_code) behind i }
 {
-    if code == DATA {
-        return behind;
-    }
-    i
+    if code == DATA { behind } else { i }
 }
 
 // What stands at place p, told to who asked at place i.
@@ -173,6 +169,7 @@ pub fn next_record(image: &[u8], g: Geometry, s: usize, size: usize, i: usize) -
 {
     let mut p = i;
     let mut x = item(image, g, s, size, p);
+    // a step is as long as the comment: no `for`
     while x.code == COMMENT {
         p = p + 2 + x.rest;
         x = item(image, g, s, size, p);
@@ -193,10 +190,9 @@ pub fn hand_out(
     requires { Program g image.now s size × (from + n ≤ size) × (n ≤ 255) × (255 ≤ length buffer.old) }
     ensures { buffer.new ≡ take n (drop from (bytes_of g image.now s)) ++ drop n buffer.old }
 {
-    if n == 0 {
-        return;
+    if n != 0 {
+        read::read_bytes(image, g, s, from, n, buffer);
     }
-    read::read_bytes(image, g, s, from, n, buffer);
 }
 
 // Test 12: the handle's numbers are in range, and every record fits a buffer of length `room`.

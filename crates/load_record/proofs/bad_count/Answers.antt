@@ -4,12 +4,10 @@ use borrow.Author.Tests.{eq-eqb, ne_eqb}
 use Rattle.lists.specs.Tests.{all-no, all_yes, all_one}
 use Rattle.load_record.proofs.bad_count.Goals as goal
 
--- src/lib.rt:60:9
-pub returns-then-c-ne-START : goal.returns-then-c-ne-START
+pub returns-then-c-eq-START : goal.returns-then-c-eq-START
 unfolding bad_count
-returns-then-c-ne-START c = sym (all-no (ne_eqb _ _ c.if-c-ne-START.true) _)
+returns-then-c-eq-START c = sym (all_yes (eq-eqb _ _ c.if-c-eq-START.true) _ ∙ all_one _)
 
--- src/lib.rt:56:1
-pub returns : goal.returns
+pub returns-else-c-eq-START : goal.returns-else-c-eq-START
 unfolding bad_count
-returns c = sym (all_yes (eq-eqb _ _ c.if-c-ne-START.false) _ ∙ all_one _)
+returns-else-c-eq-START c = let e = ne_eqb _ _ c.if-c-eq-START.false in e ∙ sym (all-no e _)

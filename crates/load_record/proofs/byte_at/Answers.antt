@@ -13,7 +13,7 @@ bounds-image-p c = let q = byte_fits _ _ _ c.requires.0 _ c.requires.1 in
 -- src/lib.rt:36:1
 pub returns : goal.returns
 returns c = let a = c.args in record {
-  is = c.wide.ensures.is ∙ ap (λ (k : ℕ). byte a.image.now k) c.place-p.ensures ∙ byte-is _ _ _
+  is = c.from.ensures ∙ ap (λ (k : ℕ). byte a.image.now k) c.place-p.ensures ∙ byte-is _ _ _
       c.requires.0 _ c.requires.1;
-  small = c.wide.ensures.small;
+  small = omega (arith, c.from.ensures, c.type_inv.image c.place-p.result);
 }
