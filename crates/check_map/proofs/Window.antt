@@ -1,7 +1,9 @@
 -- Eight bytes of the owner map as one number: its binary digits are those of the bytes.
+use Rattle.std.specs.Int.{byte_at, bytes_low_first}
+use Rattle.std.proofs.lemmas.List.{get_or-append_right}
 use mathlib.Core.Path.{◌≡◌, refl, sym, ap, ap₂, ◌∙◌, subst}
 use mathlib.Core.Logic.{◌⊎◌, inl, inr, ◌≢◌}
-use mathlib.Core.List.{List, [], ◌∷◌}
+use mathlib.Core.List.{List, [], ◌∷◌, ◌++◌}
 use mathlib.Core.Bool.{true, false}
 use Prim.Native.Nat.{ℕ, zero, suc, ◌+◌, ◌-◌, ◌*◌, ◌/◌, ◌%◌, ◌^◌, ◌≤◌, ◌<◌, min, max}
 use native.Mathlib.Omega.{arith}
@@ -9,8 +11,8 @@ use native.Mathlib.Decide.{ℕ_discrete}
 use native.Mathlib.Nat.{add-zero, mul_assoc, mul_comm, pow-suc, min-zero, mod-lt, mul-le-mul_left, div-div-eq-div-mul, div-mul-le_self}
 use native.Mathlib.Nat.{le-div_iff_mul-le, div-lt_iff_lt-mul, add-mul-div_right}
 use lib.Bits.{bit_and, bit_or, and_le_l}
-use lib.ListN.{length, get_or, set, take, drop, length-set}
-use lib.Seq.{get_or-set_same, get_or-set_other, get_or-drop}
+use lib.ListN.{length, get_or, take, drop, length-append, length-drop, get_or-append}
+use lib.Seq.{get_or-take, get_or-drop, length-take-le}
 use lib.Pow.{shl_exact}
 use Rattle.meaning.specs.Bits.{digit}
 use Rattle.laws.specs.Bits.{digit_lt}
@@ -91,65 +93,54 @@ eight-digit m at i v b h k = number-digit 8 (drop at m) (bytes-from m at b) i v 
 
 -- Eight bytes stored ---------------------------------------------------------------------------------------------------------
 
--- the bytes of x as the code stores them, one after the other, from byte 0 to byte n
-puts : ℕ → List ℕ → ℕ → ℕ → List ℕ
-puts zero m at x = set m at (x % 256)
-puts (suc n) m at x = set (puts n m at x) (at + suc n) (x / 256 ^ suc n % 256)
+-- the bytes of a number, lowest first
+byte-is : (i x : ℕ) → byte_at i x ≡ x / 256 ^ i % 256
+byte-is zero x = let z : x % 256 ≡ x / 1 % 256 = omega arith in z
+byte-is (suc i) x = refl
 
-puts-long : (n : ℕ) (m : List ℕ) (at x : ℕ) → length (puts n m at x) ≡ length m
-unfolding puts
-puts-long zero m at x = length-set m at (x % 256)
-puts-long (suc n) m at x = length-set (puts n m at x) (at + suc n) (x / 256 ^ suc n % 256) ∙ puts-long n m at x
+bytes-is : (k i j x : ℕ) → j < k → get_or (bytes_low_first i k x) j 0 ≡ x / 256 ^ (i + j) % 256
+bytes-is zero i j x h = absurd (let z : ⊥ = omega arith in z)
+bytes-is (suc k) i zero x h = byte-is i x ∙ ap (λ (n : ℕ). x / 256 ^ n % 256) (let z : i ≡ i + 0 = omega arith in z)
+bytes-is (suc k) i (suc j) x h = bytes-is k (suc i) j x (omega arith) ∙ ap (λ (n : ℕ). x / 256 ^ n % 256) (let z : suc i + j ≡ i + suc j = omega arith in z)
 
-puts-in : (n : ℕ) (m : List ℕ) (at x i : ℕ) → at + n < length m → i ≤ n → get_or (puts n m at x) (at + i) 0 ≡ x / 256 ^ i % 256
-unfolding puts
-puts-in zero m at x zero l h =
-    ap (λ (y : ℕ). get_or (set m at (x % 256)) y 0) (let z : at + 0 ≡ at = omega arith in z)
-    ∙ get_or-set_same m at (x % 256) 0 (omega arith) ∙ (let z : x % 256 ≡ x / 1 % 256 = omega arith in z)
-puts-in zero m at x (suc i) l h = absurd (let z : ⊥ = omega arith in z)
-puts-in (suc n) m at x i l h = by (λ k. puts-in n m at x i (omega arith) k) (le-or-lt i n)
+bytes-long : (k i x : ℕ) → length (bytes_low_first i k x) ≡ k
+bytes-long zero i x = refl
+bytes-long (suc k) i x = ap (λ (n : ℕ). suc n) (bytes-long k (suc i) x)
+
+-- the bytes of x put into the map
+pub eight-stored : (m : List ℕ) (at n x : ℕ) {part : List ℕ} → at + 8 ≤ length m → n ≡ 8 → part ≡ bytes_low_first 0 8 x
+    → PutsEight m at x (take at m ++ (part ++ drop n (drop at m)))
+eight-stored m at n x {part} h e q =
+    record {
+      inside = λ i k.
+          get_or-append_right (take at m) (part ++ rest) at (at + i) 0 front (omega arith)
+          ∙ ap (λ (j : ℕ). get_or (part ++ rest) j 0) (let z : at + i - at ≡ i = omega arith in z)
+          ∙ get_or-append part rest 0 i (omega (arith, middle)) ∙ ap (λ (l : List ℕ). get_or l i 0) q ∙ bytes-is 8 0 i x k
+          ∙ ap (λ (j : ℕ). x / 256 ^ j % 256) (let z : 0 + i ≡ i = omega arith in z);
+      outside = λ j k. out j k;
+      long =
+          length-append (take at m) (part ++ rest) ∙ ap (λ (k : ℕ). length (take at m) + k) (length-append part rest)
+          ∙ (let z : length (take at m) + (length part + length rest) ≡ length m = omega (arith, front, middle, behind) in z);
+    }
   where
-    by : (i ≤ n → get_or (puts n m at x) (at + i) 0 ≡ x / 256 ^ i % 256) → (i ≤ n) ⊎ (n < i)
-        → get_or (set (puts n m at x) (at + suc n) (x / 256 ^ suc n % 256)) (at + i) 0 ≡ x / 256 ^ i % 256
-    by f (inl k) = get_or-set_other (puts n m at x) (at + suc n) (at + i) (x / 256 ^ suc n % 256) 0 (λ e. let z : ⊥ = omega arith in z) ∙ f k
-    by f (inr k) =
-        let e : i ≡ suc n = omega arith in let q = puts-long n m at x in
-        ap (λ (y : ℕ). get_or (set (puts n m at x) (at + suc n) (x / 256 ^ suc n % 256)) (at + y) 0) e
-        ∙ get_or-set_same (puts n m at x) (at + suc n) (x / 256 ^ suc n % 256) 0 (omega arith) ∙ ap (λ (y : ℕ). x / 256 ^ y % 256) (sym e)
+    rest : List ℕ
+    rest = drop n (drop at m)
 
-puts-out : (n : ℕ) (m : List ℕ) (at x j : ℕ) → (j < at) ⊎ (at + n < j) → get_or (puts n m at x) j 0 ≡ get_or m j 0
-unfolding puts
-puts-out zero m at x j h = get_or-set_other m at j (x % 256) 0 (other h)
-  where
-    other : (j < at) ⊎ (at + 0 < j) → j ≢ at
-    other (inl k) e = let z : ⊥ = omega arith in z
-    other (inr k) e = let z : ⊥ = omega arith in z
-puts-out (suc n) m at x j h = get_or-set_other (puts n m at x) (at + suc n) j (x / 256 ^ suc n % 256) 0 (other h) ∙ puts-out n m at x j (less h)
-  where
-    other : (j < at) ⊎ (at + suc n < j) → j ≢ at + suc n
-    other (inl k) e = let z : ⊥ = omega arith in z
-    other (inr k) e = let z : ⊥ = omega arith in z
+    front : length (take at m) ≡ at
+    front = length-take-le at m (omega arith)
 
-    less : (j < at) ⊎ (at + suc n < j) → (j < at) ⊎ (at + n < j)
-    less (inl k) = inl k
-    less (inr k) = inr (omega arith)
+    middle : length part ≡ 8
+    middle = ap {B = ℕ} length q ∙ bytes-long 8 0 x
 
-puts-eight : (m : List ℕ) (at x : ℕ) → at + 8 ≤ length m → PutsEight m at x (puts 7 m at x)
-puts-eight m at x h =
-    record { inside = λ i k. puts-in 7 m at x i (omega arith) (omega arith); outside = λ j k. puts-out 7 m at x j (past k); long = puts-long 7 m at x }
-  where
-    past : {j : ℕ} → (j < at) ⊎ (at + 8 ≤ j) → (j < at) ⊎ (at + 7 < j)
-    past (inl k) = inl k
-    past (inr k) = inr (omega arith)
+    behind : length rest ≡ length m - at - n
+    behind = length-drop n (drop at m) ∙ ap (λ (k : ℕ). k - n) (length-drop at m)
 
--- the stores of the code
-pub eight-stores : (m : List ℕ) (at x : ℕ) → at + 8 ≤ length m
-    → PutsEight m at x
-    (set (set (set (set (set (set (set (set m at (x % 256)) (at + 1) (x / 256 % 256)) (at + 2) (x / 65536 % 256)) (at + 3) (x / 16777216 % 256)) (at + 4)
-    (x / 4294967296 % 256))
-    (at + 5) (x / 1099511627776 % 256)) (at + 6) (x / 281474976710656 % 256)) (at + 7) (x / 72057594037927936 % 256))
-unfolding puts
-eight-stores m at x h = puts-eight m at x h
+    out : (j : ℕ) → (j < at) ⊎ (at + 8 ≤ j) → get_or (take at m ++ (part ++ rest)) j 0 ≡ get_or m j 0
+    out j (inl k) = get_or-append (take at m) (part ++ rest) 0 j (omega (arith, front)) ∙ get_or-take at m j 0 k
+    out j (inr k) =
+        get_or-append_right (take at m) (part ++ rest) at j 0 front (omega arith)
+        ∙ get_or-append_right part rest 8 (j - at) 0 middle (omega arith) ∙ get_or-drop n (drop at m) (j - at - 8) 0 ∙ get_or-drop at m (n + (j - at - 8)) 0
+        ∙ ap (λ (i : ℕ). get_or m i 0) (let z : at + (n + (j - at - 8)) ≡ j = omega arith in z)
 
 -- Eight units a block: the granules stand one after the other -------------------------------------------------------------------
 
@@ -186,11 +177,12 @@ pub record Base (block at : ℕ) : Type 0 where
   pub high : at ≤ 184
   pub near : (at ≡ block) ⊎ (at ≡ 184)
 
-pub base-own : {block at : ℕ} → block < 184 → at ≡ block → Base block at
-base-own h e = record { low = omega arith; high = omega arith; near = inl e }
-
-pub base-last : {block at : ℕ} → 184 ≤ block → at ≡ 184 → Base block at
-base-last h e = record { low = omega arith; high = omega arith; near = inr e }
+pub base-at : {at : ℕ} (block : ℕ) → at ≡ min block 184 → Base block at
+base-at {at} block e = record { low = omega arith; high = omega arith; near = by (le-or-lt 184 block) }
+  where
+    by : (184 ≤ block) ⊎ (block < 184) → (at ≡ block) ⊎ (at ≡ 184)
+    by (inl h) = inr (omega arith)
+    by (inr h) = inl (omega arith)
 
 pub lies : {block at : ℕ} (unit n : ℕ) → Base block at → unit < 8 → block * 8 + unit + n ≤ 1536 → n ≤ 32 → InWindow at (block * 8 + unit) n
     (8 * (block - at) + unit)

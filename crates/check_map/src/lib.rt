@@ -19,10 +19,8 @@ pub fn gat_map(image: &[u8], g: Geometry, map: &mut [u8; 192])
     ensures { GatMap g image.now map.new }
 {
     let gat = layout::gat_at(image, g, 0);
-    let mut b = 0;
-    while b < 192 {
+    for b in 0..192 {
         map[b] = 255 - image[gat + b];
-        b += 1;
     }
 }
 
@@ -31,7 +29,7 @@ fn byte_of(map: &[u8], block: usize) -> usize
     requires { block < length map.now }
     ensures { Read (get_or map.now block 0) result }
 {
-    layout::wide(map[block])
+    usize::from(map[block])
 }
 
 // TakesStretch n granules of one block, from `unit` on. Whether all were open.
@@ -56,6 +54,7 @@ fn take_blocks(map: &mut [u8; 192], units: usize, block: usize, unit: usize, n: 
     let mut b = block;
     let mut u = unit;
     let mut left = n;
+    // A step takes what is left of a block, at first less than a whole one: no range counts these steps.
     while units < u + left {
         if !take_units(map, units, b, u, units - u) {
             return false;
@@ -75,19 +74,12 @@ fn read_eight(map: &[u8], at: usize) -> u64
     layout::eight(map, at)
 }
 
-// Puts the eight bytes of x into the map, lowest first, written so that a machine that can stores them at once.
+// Puts the eight bytes of x into the map, lowest first.
 fn put_eight(map: &mut [u8; 192], at: usize, x: u64)
     requires { (length map.old ≡ most_blocks) × (at + 8 ≤ most_blocks) }
     ensures { PutsEight map.old at x map.new }
 {
-    map[at] = (x % 256) as u8;
-    map[at + 1] = (x / 0x100 % 256) as u8;
-    map[at + 2] = (x / 0x10000 % 256) as u8;
-    map[at + 3] = (x / 0x1000000 % 256) as u8;
-    map[at + 4] = (x / 0x100000000 % 256) as u8;
-    map[at + 5] = (x / 0x10000000000 % 256) as u8;
-    map[at + 6] = (x / 0x1000000000000 % 256) as u8;
-    map[at + 7] = (x / 0x100000000000000 % 256) as u8;
+    map[at..at + 8].copy_from_slice(&x.to_le_bytes());
 }
 
 // TakesStretch a run of a disk with 8 units a block: there the granules stand one after the other in the map, and the run in eight bytes of it.
@@ -95,11 +87,7 @@ fn take_stretch(map: &mut [u8; 192], block: usize, unit: usize, n: usize) -> boo
     requires { (unit < most_units) × (block * 8 + unit + n ≤ most_blocks * 8) × (1 ≤ n) × (n ≤ 32) }
     ensures { TakesStretch 8 map.old (block * 8 + unit) n map.new result }
 {
-    let at = if block < LAST_EIGHT {
-        block
-    } else {
-        LAST_EIGHT
-    };
+    let at = block.min(LAST_EIGHT);
     let shift = 8 * (block - at) + unit;
     let mask = ((1u64 << n) - 1) << shift;
     let x = read_eight(map, at);
@@ -127,10 +115,8 @@ pub fn directory_bits(units: usize, a: usize, n: usize, at: usize) -> u64
     ensures { Window units a n at result }
 {
     let mut bits = 0u64;
-    let mut k = a;
-    while k < a + n {
-        bits = bits | (1u64 << (8 * (k / units - at) + k % units));
-        k += 1;
+    for k in a..a + n {
+        bits |= 1u64 << (8 * (k / units - at) + k % units);
     }
     bits
 }

@@ -17,7 +17,7 @@ pub fn length_holds(image: &[u8], g: Geometry) -> bool
     requires { FitsImage g image.now }
     ensures { result ≡ length_holds g image.now }
 {
-    let above = layout::wide(image[layout::hit_at(image, g, 31)]);
+    let above = usize::from(image[layout::hit_at(image, g, 31)]);
     if 20 < above {
         return false;
     }
@@ -43,6 +43,7 @@ fn sector_holds(
 {
     let mut at = layout::entry_at(image, g, column);
     let mut s = column;
+    // A slot's number and its entry's place step together, each by 32.
     while s < 256 {
         if !check_file::slot_holds(image, g, s, at, map, met, from, bits) {
             return false;
@@ -67,12 +68,10 @@ fn slots_hold(
         (standing g image.now map.new) met.old met.new result }
 {
     let columns = layout::directory_sectors(image, g) - 2;
-    let mut column = 0;
-    while column < columns {
+    for column in 0..columns {
         if !sector_holds(image, g, column, map, met, from, bits) {
             return false;
         }
-        column += 1;
     }
     true
 }
@@ -83,11 +82,7 @@ fn directory_from(image: &[u8], g: Geometry) -> usize
     ensures { Spans g.units (g.start / granule_sectors g) (round_up (directory_sectors g image.now) (granule_sectors g)) result }
 {
     let block = g.start / layout::granule_sectors(g) / g.units;
-    if block < check_map::LAST_EIGHT {
-        block
-    } else {
-        check_map::LAST_EIGHT
-    }
+    block.min(check_map::LAST_EIGHT)
 }
 
 // The bits of the directory's granules in them.

@@ -5,8 +5,8 @@ use Rattle.check_map.proofs.directory_bits.Goals as goal
 pub loop-k-init : goal.loop-k-init
 loop-k-init c = (window-start c.args.units c.args.a c.args.at, omega arith, omega arith)
 
-pub overflow_add-a : goal.overflow_add-a
-overflow_add-a c = let u = c.requires.1 in let z = c.requires.3 in omega arith
+pub overflow_add-k-end : goal.overflow_add-k-end
+overflow_add-k-end c = let u = c.requires.1 in let z = c.requires.3 in omega arith
 
 pub overflow_sub-bits : goal.overflow_sub-bits
 overflow_sub-bits c = spans-from {k = c.loop-k.k} c.requires.4 c.requires.0 c.loop-k.invariant.1
@@ -25,12 +25,6 @@ pub overflow_shl-bits : goal.overflow_shl-bits
 overflow_shl-bits c = let q = spot-lt {k = c.loop-k.k} c.requires.4 c.requires.0 c.requires.1
     c.loop-k-test.true in
     omega arith
-
-pub overflow_add-k : goal.overflow_add-k
-overflow_add-k c = let u = c.requires.1 in let z = c.requires.3 in let t = c.loop-k-test.true in omega arith
-
-pub loop-k-smaller : goal.loop-k-smaller
-loop-k-smaller c = let t = c.loop-k-test.true in omega arith
 
 pub loop-k-preserved : goal.loop-k-preserved
 loop-k-preserved c = let t = c.loop-k-test.true in (

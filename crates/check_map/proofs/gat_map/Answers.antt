@@ -18,10 +18,6 @@ pub overflow_sub-map : goal.overflow_sub-map
 overflow_sub-map c = omega (arith, c.shared_slice_known-1.given (c.gat_at-gat.result + c.loop-b.b))
 
 -- src/lib.rt:22:5
-pub loop-b-smaller : goal.loop-b-smaller
-loop-b-smaller c = omega arith
-
--- src/lib.rt:22:5
 pub loop-b-preserved : goal.loop-b-preserved
 loop-b-preserved c = turning-step c.loop-b.invariant c.loop-b-test.true (c.shared_slice_known-1.given _).fits
 

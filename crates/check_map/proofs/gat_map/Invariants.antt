@@ -1,9 +1,5 @@
 use Rattle.check_map.proofs.Owners.{Turning}
-use Prim.Native.Nat.{◌-◌}
 use Rattle.check_map.proofs.gat_map.Given as goal
 
 abbrev pub invariant-loop-b : goal.invariant-loop-b
 invariant-loop-b l = Turning l.image l.gat l.map l.b
-
-abbrev pub decreases-loop-b : goal.decreases-loop-b
-decreases-loop-b l = 192 - l.b

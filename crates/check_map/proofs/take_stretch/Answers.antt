@@ -1,61 +1,40 @@
-use Rattle.check_map.proofs.Window.{base-own, base-last, lies, Base, stretch-no, stretch-yes}
+use Rattle.check_map.proofs.Window.{base-at, lies, stretch-no, stretch-yes}
 use Rattle.check_map.proofs.Owners.{one-shl-pos}
 use native.Mathlib.Omega.{arith}
 use Rattle.check_map.proofs.take_stretch.Goals as goal
-use Rattle.check_map.proofs.take_stretch.Goals.{then-block-lt-LAST_EIGHT, else-block-lt-LAST_EIGHT}
 
 pub overflow_sub-shift : goal.overflow_sub-shift
-overflow_sub-shift c = let b : Base c.args.block c.if-block-lt-LAST_EIGHT.at = elim c.if-block-lt-LAST_EIGHT.branch [
-  | then-block-lt-LAST_EIGHT w ↦ base-own w.if-block-lt-LAST_EIGHT.true w.at-is
-  | else-block-lt-LAST_EIGHT w ↦ base-last w.if-block-lt-LAST_EIGHT.false w.at-is
-] in b.low
+overflow_sub-shift c = let b = base-at c.args.block c.min-at.ensures in b.low
 
 pub overflow_sub-mask : goal.overflow_sub-mask
 overflow_sub-mask c = one-shl-pos c.args.n (omega arith)
 
 pub overflow_shl-mask-2 : goal.overflow_shl-mask-2
-overflow_shl-mask-2 c = let b : Base c.args.block c.if-block-lt-LAST_EIGHT.at = elim c.if-block-lt-LAST_EIGHT.branch [
-  | then-block-lt-LAST_EIGHT w ↦ base-own w.if-block-lt-LAST_EIGHT.true w.at-is
-  | else-block-lt-LAST_EIGHT w ↦ base-last w.if-block-lt-LAST_EIGHT.false w.at-is
-] in
+overflow_shl-mask-2 c = let b = base-at c.args.block c.min-at.ensures in
     let l = (lies c.args.unit c.args.n b c.requires.0 c.requires.1
     c.requires.3).room in
     let q = c.requires.2 in omega arith
 
 pub read_eight-x-requires : goal.read_eight-x-requires
-read_eight-x-requires c = let b : Base c.args.block c.if-block-lt-LAST_EIGHT.at = elim c.if-block-lt-LAST_EIGHT.branch [
-  | then-block-lt-LAST_EIGHT w ↦ base-own w.if-block-lt-LAST_EIGHT.true w.at-is
-  | else-block-lt-LAST_EIGHT w ↦ base-last w.if-block-lt-LAST_EIGHT.false w.at-is
-] in
+read_eight-x-requires c = let b = base-at c.args.block c.min-at.ensures in
     let h = b.high in omega arith
 
 pub returns-then-x-mask-ne0 : goal.returns-then-x-mask-ne0
-returns-then-x-mask-ne0 c = let b : Base c.args.block c.if-block-lt-LAST_EIGHT.at = elim c.if-block-lt-LAST_EIGHT.branch [
-  | then-block-lt-LAST_EIGHT w ↦ base-own w.if-block-lt-LAST_EIGHT.true w.at-is
-  | else-block-lt-LAST_EIGHT w ↦ base-last w.if-block-lt-LAST_EIGHT.false w.at-is
-] in
-    stretch-no c.args.map.now _ c.if-block-lt-LAST_EIGHT.at _
+returns-then-x-mask-ne0 c = let b = base-at c.args.block c.min-at.ensures in
+    stretch-no c.args.map.now _ c.min-at.result _
     c.args.n _ c.read_eight-x.ensures.is c.read_eight-x.ensures.bytes
     (lies c.args.unit c.args.n b
     c.requires.0 c.requires.1
     c.requires.3) (omega arith) c.if-x-mask-ne0.true
 
 pub put_eight-requires : goal.put_eight-requires
-put_eight-requires c = let b : Base c.args.block
-    c.if-block-lt-LAST_EIGHT.at = elim c.if-block-lt-LAST_EIGHT.branch [
-      | then-block-lt-LAST_EIGHT w ↦ base-own w.if-block-lt-LAST_EIGHT.true w.at-is
-      | else-block-lt-LAST_EIGHT w ↦ base-last w.if-block-lt-LAST_EIGHT.false w.at-is
-    ] in
+put_eight-requires c = let b = base-at c.args.block c.min-at.ensures in
     let h = b.high in (omega arith, omega arith)
 
 pub returns : goal.returns
-returns c = let b : Base c.args.block
-    c.if-block-lt-LAST_EIGHT.at = elim c.if-block-lt-LAST_EIGHT.branch [
-      | then-block-lt-LAST_EIGHT w ↦ base-own w.if-block-lt-LAST_EIGHT.true w.at-is
-      | else-block-lt-LAST_EIGHT w ↦ base-last w.if-block-lt-LAST_EIGHT.false w.at-is
-    ] in
+returns c = let b = base-at c.args.block c.min-at.ensures in
     stretch-yes c.args.map.now _
-    c.if-block-lt-LAST_EIGHT.at _ c.args.n _
+    c.min-at.result _ c.args.n _
     c.read_eight-x.ensures.is c.read_eight-x.ensures.bytes
     (lies c.args.unit
     c.args.n b

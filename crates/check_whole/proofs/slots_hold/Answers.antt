@@ -19,9 +19,6 @@ returns-then-not-sector_holds c = let loop-test = c.loop-column-test in let l = 
     seeing-stop _ _ (sector_slots l.column) _ (seeing-as _ _ l.invariant (sectors-more loop-test.true)) c.sector_holds.ensures
     c.if-not-sector_holds.true
 
-pub loop-column-smaller : goal.loop-column-smaller
-loop-column-smaller c = omega arith
-
 pub loop-column-preserved : goal.loop-column-preserved
 loop-column-preserved c = let loop-test = c.loop-column-test in let l = c.loop-column in
     seeing-step _ _ (sector_slots l.column) _ (seeing-as _ _ l.invariant (sectors-more loop-test.true)) c.sector_holds.ensures

@@ -1,4 +1,3 @@
-use Prim.Native.Nat.{◌-◌}
 use Rattle.check_whole.specs.Slots.{disk_slots}
 use Rattle.check_whole.proofs.SlotBySlot.{Seeing, sectors_from}
 use Rattle.check_map.specs.Owners.{standing}
@@ -7,6 +6,3 @@ use Rattle.check_whole.proofs.slots_hold.Given as goal
 abbrev pub invariant-loop-column : goal.invariant-loop-column
 invariant-loop-column l = Seeing l.g l.image (standing l.g l.image l.initial.map) l.initial.met (disk_slots l.g l.image) (standing l.g l.image l.map)
     l.met (sectors_from l.columns l.column)
-
-abbrev pub decreases-loop-column : goal.decreases-loop-column
-decreases-loop-column l = l.columns - l.column
