@@ -1,12 +1,13 @@
 -- The map of slots: the HIT copied to it, and its rows looked through.
+use Rattle.std.proofs.lemmas.List.{get_or-take, get_or-drop, length-take-le, length-drop}
 use mathlib.Core.Path.{◌≡◌, refl, sym, ap, ◌∙◌}
 use mathlib.Core.List.{List}
 use mathlib.Core.Bool.{Bool, true, false, ◌&&◌}
 use Prim.Native.Nat.{ℕ, zero, suc, ◌+◌, ◌-◌, ◌*◌, ◌≤◌, ◌<◌}
 use native.Mathlib.Omega.{arith}
 use lib.Dec.{eqb}
-use lib.ListN.{length, get_or, take, drop, set, length-set}
-use lib.Seq.{drop-cons, get_or-set_same, get_or-set_other}
+use lib.ListN.{length, get_or, take, drop}
+use lib.Seq.{drop-cons}
 use mathlib.Core.Logic.{⊎_elim}
 use native.Mathlib.Numerals.{add-one}
 use borrow.Author.Tests.{eq-eqb, ne_eqb}
@@ -134,28 +135,12 @@ rowing-end {met} {first} {columns} {at} {r} w h c l e =
             (λ s a b. every-count (met_at met) first columns s k (omega arith) (omega arith))) q
         rest false k = sym k
 
--- The HIT, which starts at `from`, byte by byte: s bytes are copied
-pub record Copying (d met : List ℕ) (from s : ℕ) : Type 0 where
-  pub long : length met ≡ 256
-  pub is : (k : ℕ) → k < s → get_or met k 0 ≡ get_or d (from + k) 0
-
-pub copying-start : (d met : List ℕ) (from : ℕ) → length met ≡ 256 → Copying d met from 0
-copying-start d met from h = record { long = h; is = λ k l. absurd (let z : ⊥ = omega arith in z) }
-
-pub copying-step : {d met : List ℕ} {from s : ℕ} → Copying d met from s → s < 256 → Copying d (set met s (get_or d (from + s) 0)) from (s + 1)
-copying-step {d} {met} {from} {s} w h =
-    record {
-      long = length-set met s v ∙ w.long;
-      is = λ k l. ⊎_elim (λ a. let z : k ≡ s = omega arith in here k z) (λ a. get_or-set_other met s k v 0 (λ z. omega arith) ∙ w.is k a) (le-or-lt s k);
-    }
-  where
-    v : ℕ
-    v = get_or d (from + s) 0
-
-    here : (k : ℕ) → k ≡ s → get_or (set met s v) k 0 ≡ get_or d (from + k) 0
-    here k z = ap (λ (j : ℕ). get_or (set met s v) j 0) z ∙ get_or-set_same met s v 0 (let q = w.long in omega arith) ∙ ap (λ (j : ℕ). get_or d (from + j) 0)
-        (sym z)
-
-pub copying-end : (g : Geometry) {d met : List ℕ} {s : ℕ} → Copying d met (256 * (g.start + 1)) s → 256 ≤ s → HitCopied g d met
+-- The HIT, which starts at `from`, copied
+pub hit-copied : (g : Geometry) {d met : List ℕ} {from n : ℕ} → Room g d → from ≡ 256 * (g.start + 1) → n ≡ 256 → met ≡ take n (drop from d) → HitCopied g d met
 unfolding hit
-copying-end g w h = record { long = w.long; is = λ k l. w.is k (omega arith) }
+hit-copied g {d} {met} {from} r e n t =
+    let q = t ∙ ap (λ (k : ℕ). take k (drop from d)) n in
+    record {
+      long = ap {B = ℕ} length q ∙ length-take-le 256 (drop from d) (simp length-drop (let z = r.directory in omega arith));
+      is = λ s h. ap (λ (l : List ℕ). get_or l s 0) q ∙ get_or-take 256 (drop from d) s 0 h ∙ get_or-drop from d s 0 ∙ ap (λ (j : ℕ). get_or d (j + s) 0) e;
+    }

@@ -15,11 +15,7 @@ pub fn copy_hit(image: &[u8], g: Geometry, met: &mut [u8; 256])
     ensures { HitCopied g image.now met.new }
 {
     let hit = layout::hit_at(image, g, 0);
-    let mut s = 0;
-    while s < 256 {
-        met[s] = image[hit + s];
-        s += 1;
-    }
+    met.copy_from_slice(&image[hit..hit + 256]);
 }
 
 // Whether a row of slots from `first` on stands at 0, by eight. The last eight end with the row: some of them may be among those before.
@@ -29,6 +25,7 @@ fn row_met(met: &[u8; 256], first: usize, columns: usize) -> bool
 {
     let end = first + columns;
     let mut at = first;
+    // By eight: no range counts these steps.
     while at + 8 < end {
         if layout::eight(met, at) != 0 {
             return false;
@@ -44,12 +41,10 @@ pub fn all_met(image: &[u8], g: Geometry, met: &[u8; 256]) -> bool
     ensures { result ≡ every (met_at met.now) (slots g image.now) }
 {
     let columns = layout::directory_sectors(image, g) - 2;
-    let mut row = 0;
-    while row < 8 {
+    for row in 0..8 {
         if !row_met(met, 32 * row, columns) {
             return false;
         }
-        row += 1;
     }
     true
 }

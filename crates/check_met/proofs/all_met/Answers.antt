@@ -17,9 +17,6 @@ returns-then-not-row_met c = let l = c.loop-row in let directory-sectors = c.dir
     rows-stop l.invariant c.loop-row-test.true (is-false c.row_met.ensures c.if-not-row_met.true) ∙ ap (every (met_at a.met.now))
     (rows_are _ _ p directory-sectors.ensures)
 
-pub loop-row-smaller : goal.loop-row-smaller
-loop-row-smaller c = omega arith
-
 pub loop-row-preserved : goal.loop-row-preserved
 loop-row-preserved c = rows_step c.loop-row.invariant c.loop-row-test.true (is-true c.row_met.ensures c.if-not-row_met.false)
 

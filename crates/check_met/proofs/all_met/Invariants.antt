@@ -1,10 +1,6 @@
 use Rattle.check_met.specs.Met.{met_at}
 use Rattle.check_met.proofs.SlotMap.{RowsLeft}
-use Prim.Native.Nat.{◌-◌}
 use Rattle.check_met.proofs.all_met.Given as goal
 
 abbrev pub invariant-loop-row : goal.invariant-loop-row
 invariant-loop-row l = RowsLeft (met_at l.met) l.columns l.row
-
-abbrev pub decreases-loop-row : goal.decreases-loop-row
-decreases-loop-row l = 8 - l.row
