@@ -13,7 +13,7 @@ ghost use Rattle.check_names.specs.Buckets.{key, key_of, Buckets, Linked, bucket
 use meaning::Geometry;
 
 // Whether no entry of a list has the name of slot s, whose entry is at `at`. The list starts at `first`: a slot's number plus 1, or 0 where
-// it ends; `next` tells what follows a slot.
+// it ends; `next` tells what follows a slot. An `Option` of a slot takes twice the bytes.
 fn alone(image: &[u8], g: Geometry, s: usize, at: usize, first: usize, next: &[u16]) -> bool
     requires { Room g image.now × Slot g image.now s × (at ≡ entry_at g s)
         × Linked g image.now next.now first (bucket g image.now (key_of g image.now s) s)
@@ -23,12 +23,13 @@ fn alone(image: &[u8], g: Geometry, s: usize, at: usize, first: usize, next: &[u
     let a = at + layout::NAME;
     let e = a + 11;
     let mut x = first;
+    // The list goes from slot to slot: no range counts its steps.
     while 0 < x {
         let q = x - 1;
         if layout::same_name(image, layout::name_at(image, g, q), &image[a..e]) {
             return false;
         }
-        x = next[q] as usize;
+        x = usize::from(next[q]);
     }
     true
 }
@@ -50,7 +51,7 @@ fn joins(image: &[u8], g: Geometry, s: usize, at: usize, head: &mut [u8], next: 
     let a = at + layout::NAME;
     let e = a + 11;
     let b = key(&image[a..e]);
-    let first = layout::wide(head[b]);
+    let first = usize::from(head[b]);
     if !alone(image, g, s, at, first, next) {
         return false;
     }
@@ -79,13 +80,11 @@ fn row_differs(image: &[u8], g: Geometry, row: usize, head: &mut [u8], next: &mu
     let first = 32 * row;
     let end = first + (layout::directory_sectors(image, g) - 2);
     let mut at = layout::entry_at(image, g, first);
-    let mut s = first;
-    while s < end {
+    for s in first..end {
         if !visit(image, g, s, at, head, next) {
             return false;
         }
         at += 256;
-        s += 1;
     }
     true
 }
@@ -97,12 +96,10 @@ pub fn names_differ(image: &[u8], g: Geometry) -> bool
 {
     let mut head = [0u8; 256];
     let mut next = [0u16; 256];
-    let mut row = 0;
-    while row < 8 {
+    for row in 0..8 {
         if !row_differs(image, g, row, &mut head, &mut next) {
             return false;
         }
-        row += 1;
     }
     true
 }

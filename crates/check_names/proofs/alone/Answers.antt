@@ -52,15 +52,6 @@ bounds-next-q c = let a = c.args in let w = here a.g a.image.now a.next.now (buc
     c.loop-x-test.true in
     let lo = w.slot.low in let he = w.slot.held in omega arith
 
-pub overflow_cast-x : goal.overflow_cast-x
-overflow_cast-x c = let a = c.args in let w = here a.g a.image.now a.next.now (bucket a.g a.image.now (key_of a.g a.image.now a.s) a.s) a.s
-    c.loop-x.x c.loop-x.invariant
-    c.loop-x-test.true in
-    let lo = w.slot.low in let he = w.slot.held in
-    let z = c.requires.5 (c.loop-x.x - 1)
-    in
-    omega arith
-
 pub loop-x-smaller : goal.loop-x-smaller
 loop-x-smaller c = let a = c.args in let z = c.requires.5 (c.loop-x.x - 1)
     in
@@ -70,14 +61,14 @@ pub loop-x-preserved : goal.loop-x-preserved
 loop-x-preserved c = let a = c.args in let w = here a.g a.image.now a.next.now (bucket a.g a.image.now (key_of a.g a.image.now a.s) a.s) a.s
     c.loop-x.x c.loop-x.invariant
     c.loop-x-test.true in
-    searching-on a.g a.image.now a.next.now (bucket a.g a.image.now (key_of a.g a.image.now a.s) a.s) a.s
+    rw c.from-x.ensures (searching-on a.g a.image.now a.next.now (bucket a.g a.image.now (key_of a.g a.image.now a.s) a.s) a.s
     c.loop-x.x w
     (compared a.g a.image.now a.s (c.loop-x.x - 1) (a.at + 5 + 11 - (a.at + 5)) a.at
     c.requires.0
     c.requires.1 w.slot (omega arith)
     c.requires.2
     (rw c.name_at.ensures at c.same_name.ensures) ∙ ap not
-    c.if-same_name.false)
+    c.if-same_name.false))
 
 pub returns : goal.returns
 returns c = let a = c.args in searching-end a.g a.image.now a.next.now (bucket a.g a.image.now (key_of a.g a.image.now a.s) a.s) a.s

@@ -17,7 +17,7 @@ alone-requires c = let a = c.args in let k = c.key-b.ensures.small in (
       c.requires.0
       c.requires.1 (omega arith)
       c.requires.2 c.key-b.ensures.is) (omega arith)
-      c.wide-first.ensures.is,
+      c.from-first.ensures,
   c.requires.4.nexts,
   c.requires.4.falls,
 )
@@ -39,5 +39,5 @@ returns c = let a = c.args in let k = c.key-b.ensures.small in joined-yes a.g a.
     c.requires.0
     c.requires.1 (omega arith)
     c.requires.2
-    c.key-b.ensures.is) (omega arith) c.wide-first.ensures.is
+    c.key-b.ensures.is) (omega arith) c.from-first.ensures
     c.alone.ensures (ap not c.if-not-alone.false)

@@ -31,15 +31,6 @@ overflow_add-at c = let z = c.loop-s.invariant in let q1 = z.1 in let q2 = z.2 i
     let q3 = z.3 in let q4 = z.4 in
     let e = c.directory_sectors.ensures in let r = c.requires.0.directory in let q = c.requires.0.most in let d = c.requires.1 in omega arith
 
-pub overflow_add-s : goal.overflow_add-s
-overflow_add-s c = let z = c.loop-s.invariant in let q1 = z.1 in let q2 = z.2 in let q3 = z.3 in
-    let q4 = z.4 in let e = c.directory_sectors.ensures in omega arith
-
-pub loop-s-smaller : goal.loop-s-smaller
-loop-s-smaller c = let z = c.loop-s.invariant in let q1 = z.1 in let q2 = z.2 in
-    let q3 = z.3 in let q4 = z.4 in
-    let e = c.directory_sectors.ensures in omega arith
-
 pub loop-s-preserved : goal.loop-s-preserved
 loop-s-preserved c = let z = c.loop-s.invariant in let q1 = z.1 in let q2 = z.2 in
     let q3 = z.3 in let q4 = z.4 in

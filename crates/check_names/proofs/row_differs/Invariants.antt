@@ -6,6 +6,3 @@ use Rattle.check_names.proofs.row_differs.Given as goal
 abbrev pub invariant-loop-s : goal.invariant-loop-s
 invariant-loop-s l = Differing l.g l.image l.s l.head l.next × (32 * l.row ≤ l.s) × (l.s ≤ l.end) ×
     (l.at ≡ 256 * (l.g.start + 2) + 32 * l.row + 256 * (l.s - 32 * l.row)) × (l.end ≤ 32 * l.row + 28)
-
-abbrev pub decreases-loop-s : goal.decreases-loop-s
-decreases-loop-s l = l.end - l.s
