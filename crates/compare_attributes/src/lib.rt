@@ -35,10 +35,8 @@ pub fn dates_differ(
     requires { Room g first.now × Slot g first.now s × Room h second.now × Slot h second.now t }
     ensures { result ≡ dates_differ g first.now h second.now s t }
 {
-    if differs_at(first, g, second, h, s, t, 2) {
-        return true;
-    }
-    layout::field(first, g, s, 1) % 32 != layout::field(second, h, t, 1) % 32
+    differs_at(first, g, second, h, s, t, 2)
+        || layout::field(first, g, s, 1) % 32 != layout::field(second, h, t, 1) % 32
 }
 
 // Whether other attributes differ: byte 00, high three bits of 01, bytes 04 and 10 to 13.
@@ -53,23 +51,11 @@ pub fn others_differ(
     requires { Room g first.now × Slot g first.now s × Room h second.now × Slot h second.now t }
     ensures { result ≡ others_differ g first.now h second.now s t }
 {
-    if differs_at(first, g, second, h, s, t, 0) {
-        return true;
-    }
-    if layout::field(first, g, s, 1) / 32 != layout::field(second, h, t, 1) / 32 {
-        return true;
-    }
-    if differs_at(first, g, second, h, s, t, 4) {
-        return true;
-    }
-    if differs_at(first, g, second, h, s, t, layout::MAIN_CODE) {
-        return true;
-    }
-    if differs_at(first, g, second, h, s, t, 0x11) {
-        return true;
-    }
-    if differs_at(first, g, second, h, s, t, layout::WORKER_CODE) {
-        return true;
-    }
-    differs_at(first, g, second, h, s, t, 0x13)
+    differs_at(first, g, second, h, s, t, 0)
+        || layout::field(first, g, s, 1) / 32 != layout::field(second, h, t, 1) / 32
+        || differs_at(first, g, second, h, s, t, 4)
+        || differs_at(first, g, second, h, s, t, layout::MAIN_CODE)
+        || differs_at(first, g, second, h, s, t, 0x11)
+        || differs_at(first, g, second, h, s, t, layout::WORKER_CODE)
+        || differs_at(first, g, second, h, s, t, 0x13)
 }

@@ -1,76 +1,59 @@
-use Rattle.compare_attributes.proofs.Attributes.{other-first, other-high, other-4, other-10, other-11, other-12, other-13}
+use lib.Dec.{eqb}
+use mathlib.Core.Bool.{not}
+use mathlib.Core.Path.{◌≡◌, refl, ◌∙◌}
+use Prim.Native.Nat.{◌/◌}
+use Rattle.compare_attributes.proofs.Attributes.{or-then, or-else, up_to-high, up_to-4, up_to-10, up_to-11, up_to-12, up_to-13}
 use Rattle.compare_attributes.proofs.others_differ.Goals as goal
-
-pub returns-then-differs_at : goal.returns-then-differs_at
-returns-then-differs_at c = other-first _ _ _ _ _ _ c.differs_at.ensures c.if-differs_at.true
-
-pub returns-then-field : goal.returns-then-field
-returns-then-field c =
-    let if1 = c.if-differs_at in
-    let differs_at = c.differs_at in
-    other-high _ _ _ _ _ _ differs_at.ensures if1.false _ _ c.field.ensures.is c.field-2.ensures.is c.if-field.true
-
-pub returns-then-differs_at-2 : goal.returns-then-differs_at-2
-returns-then-differs_at-2 c =
-    let field2 = c.field-2 in
-    let field = c.field in
-    let if1 = c.if-differs_at in
-    let differs_at = c.differs_at in
-    other-4 _ _ _ _ _ _ differs_at.ensures if1.false _ _ field.ensures.is field2.ensures.is c.if-field.false
-    c.differs_at-2.ensures c.if-differs_at-2.true
-
-pub returns-then-differs_at-3 : goal.returns-then-differs_at-3
-returns-then-differs_at-3 c =
-    let differs-at2 = c.differs_at-2 in
-    let if2 = c.if-field in
-    let field2 = c.field-2 in
-    let field = c.field in
-    let if1 = c.if-differs_at in
-    let differs_at = c.differs_at in
-    other-10 _ _ _ _ _ _ differs_at.ensures if1.false _ _ field.ensures.is field2.ensures.is if2.false differs-at2.ensures
-    c.if-differs_at-2.false c.differs_at-3.ensures c.if-differs_at-3.true
-
-pub returns-then-differs_at-4 : goal.returns-then-differs_at-4
-returns-then-differs_at-4 c =
-    let differs-at3 = c.differs_at-3 in
-    let if3 = c.if-differs_at-2 in
-    let differs-at2 = c.differs_at-2 in
-    let if2 = c.if-field in
-    let field2 = c.field-2 in
-    let field = c.field in
-    let if1 = c.if-differs_at in
-    let differs_at = c.differs_at in
-    other-11 _ _ _ _ _ _ differs_at.ensures if1.false _ _ field.ensures.is field2.ensures.is if2.false differs-at2.ensures if3.false
-    differs-at3.ensures c.if-differs_at-3.false c.differs_at-4.ensures c.if-differs_at-4.true
+use Rattle.compare_attributes.proofs.others_differ.Goals.{then-differs_at, else-differs_at, then-field, else-field, then-differs_at-2, else-differs_at-2, then-differs_at-3, else-differs_at-3, then-differs_at-4, else-differs_at-4}
 
 pub returns-then-differs_at-5 : goal.returns-then-differs_at-5
 returns-then-differs_at-5 c =
-    let differs-at4 = c.differs_at-4 in
-    let if4 = c.if-differs_at-3 in
-    let differs-at3 = c.differs_at-3 in
-    let if3 = c.if-differs_at-2 in
-    let differs-at2 = c.differs_at-2 in
-    let if2 = c.if-field in
-    let field2 = c.field-2 in
-    let field = c.field in
-    let if1 = c.if-differs_at in
-    let differs_at = c.differs_at in
-    other-12 _ _ _ _ _ _ differs_at.ensures if1.false _ _ field.ensures.is field2.ensures.is if2.false differs-at2.ensures if3.false
-    differs-at3.ensures if4.false differs-at4.ensures c.if-differs_at-4.false c.differs_at-5.ensures c.if-differs_at-5.true
+    let a = c.args in
+    let v0 = c.differs_at.ensures in
+    let v1 : c.if-differs_at.value ≡ up_to-high a.g a.first.now a.h a.second.now a.s a.t = elim c.if-differs_at.branch [
+      | then-differs_at w ↦ or-then _ v0 w.value-is w.if-differs_at.true
+      | else-differs_at w ↦ or-else v0 w.value-is (λ i. not (eqb (w.field.ensures.is i / 32) (w.field-else-differs_at.ensures.is i / 32))) w.if-differs_at.false
+    ] in
+    let v2 : c.if-field.value ≡ up_to-4 a.g a.first.now a.h a.second.now a.s a.t = elim c.if-field.branch [
+      | then-field w ↦ or-then _ v1 w.value-is w.if-field.true
+      | else-field w ↦ or-else v1 w.value-is w.differs_at-else-field.ensures w.if-field.false
+    ] in
+    let v3 : c.if-differs_at-2.value ≡ up_to-10 a.g a.first.now a.h a.second.now a.s a.t = elim c.if-differs_at-2.branch [
+      | then-differs_at-2 w ↦ or-then _ v2 w.value-is w.if-differs_at-2.true
+      | else-differs_at-2 w ↦ or-else v2 w.value-is w.differs_at-else-differs_at-2.ensures w.if-differs_at-2.false
+    ] in
+    let v4 : c.if-differs_at-3.value ≡ up_to-11 a.g a.first.now a.h a.second.now a.s a.t = elim c.if-differs_at-3.branch [
+      | then-differs_at-3 w ↦ or-then _ v3 w.value-is w.if-differs_at-3.true
+      | else-differs_at-3 w ↦ or-else v3 w.value-is w.differs_at-else-differs_at-3.ensures w.if-differs_at-3.false
+    ] in
+    let v5 : c.if-differs_at-4.value ≡ up_to-12 a.g a.first.now a.h a.second.now a.s a.t = elim c.if-differs_at-4.branch [
+      | then-differs_at-4 w ↦ or-then _ v4 w.value-is w.if-differs_at-4.true
+      | else-differs_at-4 w ↦ or-else v4 w.value-is w.differs_at-else-differs_at-4.ensures w.if-differs_at-4.false
+    ] in
+    or-then _ v5 refl c.if-differs_at-5.true ∙ up_to-13 _ _ _ _ _ _
 
-pub returns : goal.returns
-returns c =
-    let if5 = c.if-differs_at-4 in
-    let differs-at4 = c.differs_at-4 in
-    let if4 = c.if-differs_at-3 in
-    let differs-at3 = c.differs_at-3 in
-    let if3 = c.if-differs_at-2 in
-    let differs-at2 = c.differs_at-2 in
-    let if2 = c.if-field in
-    let field2 = c.field-2 in
-    let field = c.field in
-    let if1 = c.if-differs_at in
-    let differs_at = c.differs_at in
-    other-13 _ _ _ _ _ _ differs_at.ensures if1.false _ _ field.ensures.is field2.ensures.is if2.false differs-at2.ensures if3.false
-    differs-at3.ensures if4.false differs-at4.ensures if5.false c.differs_at-5.ensures c.if-differs_at-5.false
-    c.differs_at-6.ensures
+pub returns-else-differs_at-5 : goal.returns-else-differs_at-5
+returns-else-differs_at-5 c =
+    let a = c.args in
+    let v0 = c.differs_at.ensures in
+    let v1 : c.if-differs_at.value ≡ up_to-high a.g a.first.now a.h a.second.now a.s a.t = elim c.if-differs_at.branch [
+      | then-differs_at w ↦ or-then _ v0 w.value-is w.if-differs_at.true
+      | else-differs_at w ↦ or-else v0 w.value-is (λ i. not (eqb (w.field.ensures.is i / 32) (w.field-else-differs_at.ensures.is i / 32))) w.if-differs_at.false
+    ] in
+    let v2 : c.if-field.value ≡ up_to-4 a.g a.first.now a.h a.second.now a.s a.t = elim c.if-field.branch [
+      | then-field w ↦ or-then _ v1 w.value-is w.if-field.true
+      | else-field w ↦ or-else v1 w.value-is w.differs_at-else-field.ensures w.if-field.false
+    ] in
+    let v3 : c.if-differs_at-2.value ≡ up_to-10 a.g a.first.now a.h a.second.now a.s a.t = elim c.if-differs_at-2.branch [
+      | then-differs_at-2 w ↦ or-then _ v2 w.value-is w.if-differs_at-2.true
+      | else-differs_at-2 w ↦ or-else v2 w.value-is w.differs_at-else-differs_at-2.ensures w.if-differs_at-2.false
+    ] in
+    let v4 : c.if-differs_at-3.value ≡ up_to-11 a.g a.first.now a.h a.second.now a.s a.t = elim c.if-differs_at-3.branch [
+      | then-differs_at-3 w ↦ or-then _ v3 w.value-is w.if-differs_at-3.true
+      | else-differs_at-3 w ↦ or-else v3 w.value-is w.differs_at-else-differs_at-3.ensures w.if-differs_at-3.false
+    ] in
+    let v5 : c.if-differs_at-4.value ≡ up_to-12 a.g a.first.now a.h a.second.now a.s a.t = elim c.if-differs_at-4.branch [
+      | then-differs_at-4 w ↦ or-then _ v4 w.value-is w.if-differs_at-4.true
+      | else-differs_at-4 w ↦ or-else v4 w.value-is w.differs_at-else-differs_at-4.ensures w.if-differs_at-4.false
+    ] in
+    or-else v5 refl c.differs_at-else-differs_at-5.ensures c.if-differs_at-5.false ∙ up_to-13 _ _ _ _ _ _
