@@ -40,12 +40,11 @@ pub fn too_few(image: &[u8], g: Geometry, k: usize) -> bool
         b -= 8;
         n += space::free_in_eight(image, g, b);
     }
-    while 0 < b {
+    for rest in (0..b).rev() {
         if k <= n {
             return false;
         }
-        b -= 1;
-        n += space::clear_bits(layout::gat_byte(image, g, b), g.units);
+        n += space::clear_bits(layout::gat_byte(image, g, rest), g.units);
     }
     n < k
 }

@@ -32,7 +32,7 @@ pub fn write_bytes(image: &mut [u8], g: Geometry, s: usize, i: usize, src: &[u8]
     }
 }
 
-// n zeros go to the file from byte i on, in the same way.
+// n zeros go to the file from byte i on, in the same way. No closure makes the two walks one: its clauses would be longer than the loop.
 pub fn clear_bytes(image: &mut [u8], g: Geometry, s: usize, i: usize, n: usize)
     requires { Readable g image.old s × Apart g image.old s × Within g image.old s i n }
     ensures { image.new ≡ store (place g image.old s) image.old i (replicate n 0) }

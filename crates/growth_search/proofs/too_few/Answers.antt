@@ -25,14 +25,11 @@ loop-b-preserved c = (
   freed-more _ _ 8 c.loop-b.invariant.2 (omega arith) c.free_in_eight-n.ensures.0,
 )
 
-pub loop-b-2-init : goal.loop-b-2-init
-loop-b-2-init c = c.loop-b.invariant
+pub loop-rest-init : goal.loop-rest-init
+loop-rest-init c = c.loop-b.invariant
 
 pub returns-then-k-n-2 : goal.returns-then-k-n-2
-returns-then-k-n-2 c = enough _ _ c.loop-b-2.invariant.2 c.if-k-n-2.true
-
-pub overflow_sub-b-in-loop-b-2 : goal.overflow_sub-b-in-loop-b-2
-overflow_sub-b-in-loop-b-2 c = omega arith
+returns-then-k-n-2 c = enough _ _ c.loop-rest.invariant.2 c.if-k-n-2.true
 
 pub gat_byte-requires : goal.gat_byte-requires
 gat_byte-requires c = let r = c.requires in omega arith
@@ -40,20 +37,17 @@ gat_byte-requires c = let r = c.requires in omega arith
 pub clear_bits-n-requires : goal.clear_bits-n-requires
 clear_bits-n-requires c = c.requires.units-high
 
-pub overflow_add-n-in-loop-b-2 : goal.overflow_add-n-in-loop-b-2
-overflow_add-n-in-loop-b-2 c = let r = c.requires in let k = c.clear_bits-n.ensures.1 in omega arith
+pub overflow_add-n-in-loop-rest : goal.overflow_add-n-in-loop-rest
+overflow_add-n-in-loop-rest c = let r = c.requires in let k = c.clear_bits-n.ensures.1 in omega arith
 
-pub loop-b-2-smaller : goal.loop-b-2-smaller
-loop-b-2-smaller c = omega arith
-
-pub loop-b-2-preserved : goal.loop-b-2-preserved
-loop-b-2-preserved c = (
+pub loop-rest-preserved : goal.loop-rest-preserved
+loop-rest-preserved c = (
   omega arith,
   (let k = c.clear_bits-n.ensures.1 in omega arith),
   freed-step _ _ c.requires.units-low
-      c.loop-b-2.invariant.2 c.loop-b-2-test.true
+      c.loop-rest.invariant.2 c.loop-rest-test.true
       c.gat_byte.ensures.is c.clear_bits-n.ensures.0,
 )
 
 pub returns : goal.returns
-returns c = fewer _ _ c.loop-b-2.invariant.2 c.args.k (omega arith)
+returns c = fewer _ _ c.loop-rest.invariant.2 c.args.k (omega arith)
