@@ -421,6 +421,8 @@ impl<'a> File<'a> {
                 ")" | "]" | "}" if open.pop() != Some(token.text) => {
                     return self.unknown(token.from, &format!("`{}` closes nothing", token.text));
                 }
+                // Rattle's std has what core has under these names.
+                "std" if ["::cmp::", "::convert::"].iter().any(|of_core| self.text[self.at..].starts_with(of_core)) => {}
                 word if word == "#" || UNKNOWN.contains(&word) => {
                     return self.unknown(token.from, &format!("`{word}` is not known here"));
                 }

@@ -7,6 +7,9 @@
 // This file's only demands on the caller are those of `genie.h`.
 #![allow(clippy::missing_safety_doc)]
 
+// What the sources name by `std` is in `core` too; erase.rs knows which names.
+extern crate core as std;
+
 #[cfg(not(any(target_pointer_width = "64", all(target_pointer_width = "32", feature = "no-proof-covers-32-bits"))))]
 compile_error!(
     "the proofs are of a usize of 64 bits, and this target has another: with 32 bits the feature \

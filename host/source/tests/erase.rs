@@ -208,6 +208,7 @@ fn forms_that_are_known() {
     let told = "#![tactic(auto)]\nuse a::{\n    B, C,\n};\n#[tactic(auto, using(crate::proofs::M::x-y), unfolding(z))]\nfn f() {\n    \
                 prove!(x < 2);\n}\n#[cycle(a_b)]\nfn g() {\n}\n";
     assert_eq!(out_of(told), Ok(vec![1, 5, 7, 9]));
+    assert_eq!(out_of("use std::cmp::Ordering;\n"), Ok(vec![]));
     let methods = "impl S {\n    fn f(self) -> [u8; 2]\n        ensures { ⊤ }\n    {\n        [1, 2]\n    }\n}\n";
     assert_eq!(out_of(methods), Ok(vec![3]));
     let traits = "#[derive(Clone, Copy, PartialEq, Eq)]\nenum E {\n    A = 1,\n}\nimpl From<E> for u8 {\n    fn from(e: E) -> u8\n        \
