@@ -1,22 +1,20 @@
 -- What is handed back of a name that comes in, and the counts that find its first bad byte.
 use mathlib.Core.Path.{◌≡◌, refl, sym, ap, ◌∙◌}
-use mathlib.Core.List.{List, [], ◌∷◌, map}
+use mathlib.Core.List.{List, [], ◌∷◌}
 use mathlib.Core.Bool.{Bool, true, false, cond, ◌&&◌}
-use Prim.Native.Nat.{ℕ, suc, ◌+◌, ◌-◌, ◌≤◌, ◌<◌}
+use Prim.Native.Nat.{ℕ, suc, ◌+◌, ◌≤◌, ◌<◌}
 use native.Mathlib.Omega.{arith}
 use native.Mathlib.Nat.{zero-add}
 use native.Mathlib.Decide.{ℕ_discrete}
 use lib.ListN.{length, get_or, take, drop, replicate}
-use lib.Seq.{ext_get_or}
-use lib.Dec.{eqb, leb, ltb}
-use borrow.Author.Tests.{eq-eqb, ne_eqb, lt-ltb, le-ltb, lt-leb, le-leb}
+use lib.Dec.{eqb, ltb}
+use borrow.Author.Tests.{eq-eqb, ne_eqb, lt-ltb, le-ltb}
 use Rattle.std.specs.List.{prefix_len, list_all}
-use Rattle.meaning.specs.Lists.{count, every}
-use Rattle.meaning.specs.Names.{letter, well_formed, fold_byte, fold, blanks, good, bad_place, no_place}
+use Rattle.meaning.specs.Lists.{every}
+use Rattle.meaning.specs.Names.{letter, well_formed, fold, blanks, good, bad_place, no_place}
 use Rattle.meaning.specs.Refusal.{place_of}
 use Rattle.meaning.specs.declared.Incoming.{Incoming}
 use Rattle.meaning.specs.declared.Refusal.{Refusal}
-use Rattle.lists.specs.Members
 use Rattle.laws.specs.Spelling.{fold-well, fold-length, well-place, place-well}
 use Rattle.name_spelling.specs.Hands.{Hands}
 
@@ -119,26 +117,6 @@ module _ (n : List ℕ) {x : List ℕ} {k : ℕ} (f : x ≡ fold n) (e : k ≡ b
   -- and one that is not
   pub hands-folded : k ≡ no_place → Hands n (record { place = k; name = x })
   hands-folded z = record { place = its-place; name = λ w. f; none = λ w. absurd (w (sym its-place ∙ z)) }
-
--- The fold --------------------------------------------------------------------------------------------------------------------
-
-module _ (x : ℕ) where
-  pub byte_low : x < 0x61 → x ≡ fold_byte x
-  byte_low h = sym (ap (λ (b : Bool). cond (b && leb x 0x7d) (x - 0x20) x) (lt-leb 0x61 x h))
-
-  pub byte_high : 0x61 ≤ x → 0x7d < x → x ≡ fold_byte x
-  byte_high h k = rw (le-leb 0x61 x h, lt-leb x 0x7d k) refl
-
-  pub byte-folds : 0x61 ≤ x → x ≤ 0x7d → x - 0x20 ≡ fold_byte x
-  byte-folds h k = rw (le-leb 0x61 x h, le-leb x 0x7d k) refl
-
--- a name of eleven bytes, byte by byte
-pub eleven : (n : List ℕ) → length n ≡ 11 → map fold_byte (map (λ i. get_or n i 0) (count 0 11)) ≡ fold n
-unfolding fold
-eleven n l =
-    ap (map fold_byte)
-    (sym (ext_get_or 0 n (map (λ i. get_or n i 0) (count 0 11)) l
-    (λ i h. sym (Members.map-count (λ i. get_or n i 0) 0 11 i (omega (arith, h, l)) ∙ ap (λ (j : ℕ). get_or n j 0) (zero-add i)))))
 
 -- The place that a refusal tells of ----------------------------------------------------------------------------------------------
 

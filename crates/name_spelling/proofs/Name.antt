@@ -1,8 +1,8 @@
 -- A name, byte by byte.
 use mathlib.Core.Path.{◌≡◌, sym, ap, ◌∙◌}
-use mathlib.Core.List.{List, [], ◌∷◌}
-use mathlib.Core.Bool.{Bool, true, false, cond, ◌&&◌}
-use Prim.Native.Nat.{ℕ, ◌+◌, ◌-◌, ◌≤◌, ◌<◌}
+use mathlib.Core.List.{List, ◌∷◌}
+use mathlib.Core.Bool.{Bool, true, false, cond}
+use Prim.Native.Nat.{ℕ, ◌+◌, ◌-◌, ◌<◌}
 use native.Mathlib.Omega.{arith}
 use native.Mathlib.Numerals.{add-one}
 use lib.ListN.{length, get_or, take, drop, length-drop}
@@ -10,24 +10,12 @@ use lib.Seq.{drop-cons, take_all}
 use lib.Dec.{eqb}
 use Rattle.meaning.specs.Lists.{every}
 use Rattle.meaning.specs.Names.{letter, padded}
-use Rattle.lists.specs.Ranges.{left-more, left-none}
+use Rattle.lists.specs.Ranges.{left-more}
 
 module _ (n : List ℕ) (to i : ℕ) where
   -- the part from i up to `to` has one byte more than the part after it
   pub part-more : i < to → i < length n → take (to - i) (drop i n) ≡ get_or n i 0 ∷ take (to - (i + 1)) (drop (i + 1) n)
   part-more h l = simp (left-more h, drop-cons n i 0 l, add-one)
-
-  pub part_none : to ≤ i → take (to - i) (drop i n) ≡ []
-  part_none h = simp (left-none h)
-
-  pub every_more : (p : ℕ → Bool) → i < to → i < length n → p (get_or n i 0) ≡ true
-      → every p (take (to - i) (drop i n)) ≡ every p (take (to - (i + 1)) (drop (i + 1) n))
-  every_more p h l e =
-      ap (every p) (part-more h l) ∙ ap (λ (b : Bool). b && every p (take (to - (i + 1)) (drop (i + 1) n))) e
-
-  pub every-stop : (p : ℕ → Bool) → i < to → i < length n → p (get_or n i 0) ≡ false → every p (take (to - i) (drop i n)) ≡ false
-  every-stop p h l e =
-      ap (every p) (part-more h l) ∙ ap (λ (b : Bool). b && every p (take (to - (i + 1)) (drop (i + 1) n))) e
 
   pub padded-more : i < to → i < length n → letter (get_or n i 0) ≡ true → padded (take (to - i) (drop i n)) ≡ padded (take (to - (i + 1)) (drop (i + 1) n))
   padded-more h l e =

@@ -36,7 +36,7 @@ fn blank(bytes: &[u8]) -> bool
     bytes.iter().all(|b| *b == 0x20)
 }
 
-// Whether each of the first eight bytes of a name is allowed or 20H.
+// Whether each of the first eight bytes of a name is allowed or 20H. Written out with `&`: an `all` would branch at each byte.
 fn eight_plain(name: &[u8]) -> bool
     requires { length name.now ≡ 11 }
     ensures { result ≡ every plain (take 8 name.now) }
