@@ -1,9 +1,11 @@
 -- The rows of a table, file by file.
 use mathlib.Core.Path.{◌≡◌, refl, sym, ap, ◌∙◌}
 use mathlib.Core.List.{List, [], ◌∷◌, ◌++◌, append-nil, append_assoc}
-use Prim.Native.Nat.{ℕ, zero, suc, ◌+◌, ◌-◌, ◌*◌, ◌/◌, ◌≤◌, ◌<◌}
+use Prim.Native.Nat.{ℕ, zero, suc, ◌+◌, ◌-◌, ◌*◌, ◌/◌, ◌≤◌, ◌<◌, ◌%◌}
 use native.Mathlib.Omega.{arith}
-use lib.ListN.{length, take, drop, length-append}
+use Rattle.std.specs.Int.{byte_at, to_le_bytes}
+use Rattle.std.proofs.Common.{w64}
+use lib.ListN.{length, get_or, take, drop, length-append}
 use lib.Seq.{sets, length-sets, take_all, take-append_seam, drop-nil}
 use lib.Dec.{ltb}
 use borrow.Author.Tests.{ne_eqb, lt-ltb, le-ltb}
@@ -23,6 +25,20 @@ use Rattle.copy.proofs.OneByOne.{sets-append}
 use Rattle.passed.proofs.Checked.{check-stop, check-then, handed-on}
 use Rattle.listing.specs.From.{listed_from, NextListed}
 use Rattle.listing.proofs.Files.{from-start}
+
+-- the numbers of a row, low bytes first
+pub numbers-are : (s size granules : ℕ) {z o : List ℕ} → s < 256 → z ≡ to_le_bytes w64 size → o ≡ to_le_bytes w64 granules
+    → (s ∷ get_or z 0 0 ∷ get_or z 1 0 ∷ get_or z 2 0 ∷ get_or z 3 0 ∷ get_or o 0 0 ∷ get_or o 1 0 ∷ 0 ∷ 0 ∷ [])
+    ≡ low_first 1 s ++ (low_first 4 size ++ (low_first 2 granules ++ (0 ∷ 0 ∷ [])))
+numbers-are s size granules h e f =
+    let a : s ≡ s % 256 = omega arith in
+    let b : byte_at 0 size ≡ size % 256 = omega arith in
+    let b' : byte_at 1 size ≡ size / 256 % 256 = omega arith in
+    let b'' : byte_at 2 size ≡ size / 256 / 256 % 256 = omega arith in
+    let b₃ : byte_at 3 size ≡ size / 256 / 256 / 256 % 256 = omega arith in
+    let c : byte_at 0 granules ≡ granules % 256 = omega arith in
+    let c' : byte_at 1 granules ≡ granules / 256 % 256 = omega arith in
+    rw (e, f) (λ i. a i ∷ b i ∷ b' i ∷ b'' i ∷ b₃ i ∷ c i ∷ c' i ∷ 0 ∷ 0 ∷ [])
 
 module _ (g : Geometry) (d : List ℕ) where
   -- a row in two parts: the name, then the numbers

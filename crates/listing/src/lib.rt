@@ -132,16 +132,16 @@ fn put_row(image: &[u8], g: Geometry, s: usize, table: &mut [u8], to: usize)
     requires { Walkable g image.now × Used g image.now s × (to + 20 ≤ length table.old) }
     ensures { table.new ≡ sets table.old to (row g image.now s) }
 {
-    let size = layout::size_of(image, g, s);
-    let granules = extent::measure(image, g, s).owned;
+    let size = layout::size_of(image, g, s).to_le_bytes();
+    let granules = extent::measure(image, g, s).owned.to_le_bytes();
     let numbers = [
-        (s % 256) as u8,
-        (size % 256) as u8,
-        (size / 256 % 256) as u8,
-        (size / 256 / 256 % 256) as u8,
-        (size / 256 / 256 / 256 % 256) as u8,
-        (granules % 256) as u8,
-        (granules / 256 % 256) as u8,
+        s as u8,
+        size[0],
+        size[1],
+        size[2],
+        size[3],
+        granules[0],
+        granules[1],
         0,
         0,
     ];
