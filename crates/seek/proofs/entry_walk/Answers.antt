@@ -1,9 +1,6 @@
-use Rattle.seek.proofs.SeekSteps.{walking_start, walking_here, walking-stop, walking-step, walking-end}
+use Rattle.seek.proofs.SeekSteps.{walking_here, walking-stop, walking-step, walking-end}
 use native.Mathlib.Omega.{arith}
 use Rattle.seek.proofs.entry_walk.Goals as goal
-
-pub loop-init : goal.loop-init
-loop-init c = walking_start _ _ _ _ c.requires.1
 
 pub returns-in-Ok : goal.returns-in-Ok
 returns-in-Ok c =

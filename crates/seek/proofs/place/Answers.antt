@@ -19,9 +19,6 @@ in_image {g} {w} {i} {r} b h k =
     let p : 0 < w = omega (arith, b.some) in
     omega (arith, b.few, mod-lt i p, mul-le-mul b.few q)
 
-pub owned_at-requires : goal.owned_at-requires
-owned_at-requires c = let p = c.requires in (p.0, p.1, in-granule c.granule_bytes-w.ensures p.2)
-
 pub overflow_mul-result : goal.overflow_mul-result
 overflow_mul-result c = omega (arith, in_image c.granule_bytes-w.ensures c.requires.2 c.owned_at.ensures.1)
 

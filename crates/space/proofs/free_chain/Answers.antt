@@ -1,11 +1,8 @@
 use native.Mathlib.Omega.{arith}
 use mathlib.Core.Path.{◌∙◌}
 use Rattle.seek.proofs.Frame.{same-room, same-slot, same-sound, same-used, same-field}
-use Rattle.space.proofs.Folds.{unchaining-start, unchaining-step, unchaining-stop, unchaining-end, unchained-same}
+use Rattle.space.proofs.Folds.{unchaining-step, unchaining-stop, unchaining-end, unchained-same}
 use Rattle.space.proofs.free_chain.Goals as goal
-
-pub loop-init : goal.loop-init
-loop-init c = unchaining-start _ _ _ _ c.requires.1
 
 pub free_entry-requires : goal.free_entry-requires
 free_entry-requires c = let p = c.requires in (

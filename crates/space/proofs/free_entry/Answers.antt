@@ -1,7 +1,7 @@
 use native.Mathlib.Omega.{arith}
 use mathlib.Core.Path.{refl, ◌∙◌}
 use Rattle.seek.proofs.Frame.{same-room, same-slot, same_start, same_len}
-use Rattle.space.proofs.Folds.{emptying-start, emptying-step, emptying-end}
+use Rattle.space.proofs.Folds.{emptying-start, emptying-step}
 use Rattle.space.proofs.free_entry.Goals as goal
 
 pub runs-j-end-requires : goal.runs-j-end-requires
@@ -52,9 +52,3 @@ loop-j-preserved c = let a = c.args in let r = c.requires.0.room in let e = c.lo
     c.requires.1
     (let z = c.runs-j-end.ensures.is in let y = c.loop-j-test.true in omega arith) in
     emptying-step _ r c.loop-j.invariant (omega arith) p q (omega arith) c.free_run.ensures
-
-pub shape_of-image : goal.shape_of-image
-shape_of-image c = c.loop-j.invariant.same.long
-
-pub returns : goal.returns
-returns c = emptying-end _ c.loop-j.invariant (omega arith)

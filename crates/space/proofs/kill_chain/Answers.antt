@@ -1,29 +1,6 @@
 use mathlib.Core.Path.{◌∙◌}
-use Rattle.space.proofs.Folds.{clearing-start, clearing-step, clearing-stop, clearing-end, kept-room, kept_slot}
-use native.Mathlib.Omega.{arith}
+use Rattle.space.proofs.Folds.{clearing-step, clearing-stop, clearing-end}
 use Rattle.space.proofs.kill_chain.Goals as goal
-
-pub loop-init : goal.loop-init
-loop-init c = clearing-start _ _ _ _ c.requires.1
-
-pub field-marker-requires : goal.field-marker-requires
-field-marker-requires c = (
-  kept-room _ c.requires.0.room c.loop.invariant.kept,
-  kept_slot _
-      c.loop.invariant.kept c.loop.invariant.used.slot,
-  omega arith,
-)
-
-pub field-link-requires : goal.field-link-requires
-field-link-requires c = (
-  kept-room _ c.requires.0.room c.loop.invariant.kept,
-  kept_slot _ c.loop.invariant.kept c.loop.invariant.used.slot,
-  omega arith,
-)
-
-pub kill_entry-requires : goal.kill_entry-requires
-kill_entry-requires c = let l = c.loop in let p = c.requires in
-    (kept-room _ p.0.room l.invariant.kept, kept_slot _ l.invariant.kept l.invariant.used.slot)
 
 pub shape_of-image-then-marker-ne-HANDS_ON : goal.shape_of-image-then-marker-ne-HANDS_ON
 shape_of-image-then-marker-ne-HANDS_ON c = let kill-entry = c.kill_entry in let l = c.loop in kill-entry.auto.image ∙ l.invariant.kept.long

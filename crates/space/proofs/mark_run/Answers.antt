@@ -1,10 +1,7 @@
-use Rattle.space.proofs.Marks.{marking-start, marking-inside, marking_step, marking-long}
+use Rattle.space.proofs.Marks.{marking-inside, marking_step, marking-long}
 use Rattle.space.proofs.Blocks.{cut_low}
 use native.Mathlib.Omega.{arith}
 use Rattle.space.proofs.mark_run.Goals as goal
-
-pub loop-u-init : goal.loop-u-init
-loop-u-init c = marking-start _ _ _ _ _ c.requires.0.units-low
 
 pub mark_units-requires : goal.mark_units-requires
 mark_units-requires c = let m = c.loop-u.invariant.cut.unit in (

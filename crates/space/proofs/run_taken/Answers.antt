@@ -1,10 +1,7 @@
-use Rattle.space.proofs.Looks.{looking-start, looking-hit, looking-step}
+use Rattle.space.proofs.Looks.{looking-hit, looking-step}
 use Rattle.space.proofs.Blocks.{cut_low, cut_inside}
 use native.Mathlib.Omega.{arith}
 use Rattle.space.proofs.run_taken.Goals as goal
-
-pub loop-u-init : goal.loop-u-init
-loop-u-init c = looking-start _ _ _ _ c.requires.0.units-low
 
 pub units_taken-requires : goal.units_taken-requires
 units_taken-requires c = let m = c.loop-u.invariant.cut.unit in (
