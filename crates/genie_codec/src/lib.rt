@@ -59,7 +59,7 @@ pub fn put_name(b: &mut [u8], at: usize, name: [u8; 11])
     copy::put_part(b, at, &name, 0, NAME_BYTES);
 }
 
-// The handle goes to the first 19 bytes.
+// The handle goes to the first 19 bytes. A cast must fit, so `to_le_bytes` would need the same remainders first: no plainer.
 pub fn put_handle(b: &mut [u8], h: Handle)
     requires { 19 ≤ length b.old }
     ensures { b.new ≡ stored b.old h }
