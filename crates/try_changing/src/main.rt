@@ -28,13 +28,7 @@ fn other() -> Geometry {
 
 // Granules 0 and 1 hold the directory, every other odd one is reserved, so that each granule taken starts a run; 11 are free.
 fn reserve(image: &mut [u8; 30720]) {
-    copy::put_part(
-        image,
-        0,
-        b"\x03\x02\x02\x02\x02\x02\x02\x02\x02\x02\x02\x02",
-        0,
-        12,
-    );
+    image[..12].copy_from_slice(b"\x03\x02\x02\x02\x02\x02\x02\x02\x02\x02\x02\x02");
 }
 
 // A HIT byte without an entry, at slot 5 (22), and without it again.
@@ -49,7 +43,7 @@ fn repair(image: &mut [u8; 30720]) {
 fn told(words: &[u8], number: u8, should: u8) {
     io::write_all(1, words);
     io::write_all(1, b": ");
-    io::print_decimal(1, number as u64);
+    io::print_decimal(1, u64::from(number));
     if number != should {
         io::write_all(1, b" WRONG");
     }
@@ -70,21 +64,15 @@ fn new_file(len: usize, main: u16) -> NewFile {
 
 // A handle changed in one of its numbers.
 fn placed(h: Handle, at: usize) -> Handle {
-    let mut x = h;
-    x.at = at;
-    x
+    Handle { at, ..h }
 }
 
 fn levelled(h: Handle, level: usize) -> Handle {
-    let mut x = h;
-    x.level = level;
-    x
+    Handle { level, ..h }
 }
 
 fn elsewhere(h: Handle) -> Handle {
-    let mut x = h;
-    x.slot = 0x81;
-    x
+    Handle { slot: 0x81, ..h }
 }
 
 // Create -----------------------------------------------------------------------------------------------------------------
@@ -253,10 +241,8 @@ fn one_letter(image: &mut [u8; 30720], letter: u8) -> u8 {
 
 // A file for each letter that a name may have.
 fn letters(image: &mut [u8; 30720]) {
-    let mut letter: u8 = 0x41;
-    while letter < 0x5e {
+    for letter in 0x41..0x5e {
         one_letter(image, letter);
-        letter += 1;
     }
 }
 
@@ -370,16 +356,10 @@ fn brings(image: &mut [u8; 30720]) {
 
 // Its name in use, then all granules taken, then neither.
 fn brings_more(image: &mut [u8; 30720]) {
-    copy::put_part(image, 645, b"A          ", 0, 11);
+    image[645..656].copy_from_slice(b"A          ");
     brought(image, small(), 0x80, b"bring back, name in use", 19);
-    copy::put_part(image, 645, b"PULS01  DAT", 0, 11);
-    copy::put_part(
-        image,
-        0,
-        b"\x03\x03\x03\x03\x03\x03\x03\x03\x03\x03\x03\x03",
-        0,
-        12,
-    );
+    image[645..656].copy_from_slice(b"PULS01  DAT");
+    image[..12].copy_from_slice(b"\x03\x03\x03\x03\x03\x03\x03\x03\x03\x03\x03\x03");
     brought(image, small(), 0x80, b"bring back, granules taken", 20);
     reserve(image);
     brought(image, small(), 0x80, b"bring back", 0);

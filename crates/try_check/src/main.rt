@@ -31,7 +31,7 @@ fn told(image: &[u8], g: Geometry, words: &[u8], number: u8, slot: usize) {
     let f = fault_diagnosis::check(image, g);
     io::write_all(1, words);
     io::write_all(1, b": ");
-    io::print_decimal(1, f.number as u64);
+    io::print_decimal(1, u64::from(f.number));
     if f.at < refusal::NOWHERE {
         io::write_all(1, b" slot ");
         io::print_decimal(1, f.at as u64);
@@ -48,10 +48,6 @@ fn told(image: &[u8], g: Geometry, words: &[u8], number: u8, slot: usize) {
 // The disk as it is.
 fn whole(image: &[u8; 20480], words: &[u8], number: u8, slot: usize) {
     told(image, small(), words, number, slot);
-}
-
-fn other_geometries(image: &[u8; 20480]) {
-    geometries(image);
 }
 
 // The disk with one byte changed, and back again.
@@ -94,40 +90,21 @@ fn fill(image: &mut [u8; 20480]) {
     image[257] = 0xc1;
     image[258] = 0xc4;
     image[259] = 0x70;
-    copy::put_part(
-        image,
-        512,
+    image[512..544].copy_from_slice(
         b"\x10\x00\x00\x00\x00PULS01  DAT\x00\x00\x00\x00\x05\x00\x01\x00\x02\x00\x03\x00\x01\x20\xfe\x01",
-        0,
-        32,
     );
-    copy::put_part(
-        image,
-        768,
+    image[768..800].copy_from_slice(
         b"\x90\x00\x00\x00\x00\x00\x00\x00\x00\x00\x00\x00\x00\x00\x00\x00\x00\x00\x00\x00\x00\x00\x02\x20\xff\xff\xff\xff\xff\xff\xff\xff",
-        0,
-        32,
     );
-    copy::put_part(
-        image,
-        1024,
+    image[1024..1056].copy_from_slice(
         b"\x50\x00\x00\x00\x00DIR     SYS\x00\x00\x00\x00\x0a\x00\x00\x01\xff\xff\xff\xff\xff\xff\xff\xff",
-        0,
-        32,
     );
-    copy::put_part(
-        image,
-        SLOT_3,
+    image[SLOT_3..SLOT_3 + 32].copy_from_slice(
         b"\x10\x00\x00\x00\x00LEER       \x00\x00\x00\x00\x00\x00\xff\xff\xff\xff\xff\xff\xff\xff\xff\xff",
-        0,
-        32,
     );
 }
 
-fn geometries(image: &[u8]) {
-    if image.len() < 1 {
-        return;
-    }
+fn geometries(image: &[u8; 20480]) {
     told(
         &image[1..],
         small(),
@@ -402,12 +379,8 @@ fn untested(image: &mut [u8; 20480]) {
 
 // A second file LEER at slot 4.
 fn twice(image: &mut [u8; 20480]) {
-    copy::put_part(
-        image,
-        1536,
+    image[1536..1568].copy_from_slice(
         b"\x10\x00\x00\x00\x00LEER       \x00\x00\x00\x00\x00\x00\xff\xff\xff\xff\xff\xff\xff\xff\xff\xff",
-        0,
-        32,
     );
     with_byte(image, 260, 0x70, b"two files of one name", 24, 4);
     with_bytes(
@@ -426,12 +399,8 @@ fn twice(image: &mut [u8; 20480]) {
 fn ring(image: &mut [u8; 20480]) {
     image[4] = 0x03;
     image[5] = 0x03;
-    copy::put_part(
-        image,
-        1536,
+    image[1536..1568].copy_from_slice(
         b"\x90\x04\x00\x00\x00\x00\x00\x00\x00\x00\x00\x00\x00\x00\x00\x00\x00\x00\x00\x00\x00\x00\x04\x00\x04\x20\x05\x00\x05\x20\xfe\x04",
-        0,
-        32,
     );
     with_byte(image, 260, 0xc1, b"a ring of extensions", 25, 4);
 }
@@ -441,7 +410,7 @@ fn main() {
     whole(&image, b"an empty image", 30, refusal::NOWHERE);
     fill(&mut image);
     whole(&image, b"the good disk", 0, refusal::NOWHERE);
-    other_geometries(&image);
+    geometries(&image);
     maps(&mut image);
     files(&mut image);
     chains(&mut image);

@@ -52,51 +52,35 @@ fn put_maps(image: &mut [u8; 20480]) {
 // Slot 1: PULS01/DAT, level 5, main code 1234H, worker code 5678H, granules 2, 8, 3, 4, 6, and 5 by the extension at slot 0; n = 26, e = 3, so
 // 6,403 bytes. Slot 2: DIR/SYS, a system file, granules 0 and 1. Slot 3: LEER, invisible, level 6, the same codes, empty.
 fn put_entries(image: &mut [u8; 20480]) {
-    copy::put_part(
-        image,
-        512,
+    image[512..544].copy_from_slice(
         b"\x90\x01\x00\x00\x00\x00\x00\x00\x00\x00\x00\x00\x00\x00\x00\x00\x00\x00\x00\x00\x00\x00\x02\x20\xff\xff\xff\xff\xff\xff\xff\xff",
-        0,
-        32,
     );
-    copy::put_part(
-        image,
-        768,
+    image[768..800].copy_from_slice(
         b"\x15\x00\x00\x03\x05PULS01  DAT\x34\x12\x78\x56\x1a\x00\x01\x00\x04\x00\x01\x21\x03\x00\xfe\x00",
-        0,
-        32,
     );
-    copy::put_part(
-        image,
-        1024,
+    image[1024..1056].copy_from_slice(
         b"\x50\x00\x00\x00\x00DIR     SYS\x00\x00\x00\x00\x0a\x00\x00\x01\xff\xff\xff\xff\xff\xff\xff\xff",
-        0,
-        32,
     );
-    copy::put_part(
-        image,
-        SLOT_3,
+    image[SLOT_3..SLOT_3 + 32].copy_from_slice(
         b"\x1e\x00\x00\x00\x00LEER       \x34\x12\x78\x56\x00\x00\xff\xff\xff\xff\xff\xff\xff\xff\xff\xff",
-        0,
-        32,
     );
 }
 
 // Some bytes of PULS01/DAT: at the start of its sectors 0, 9, 14, 15 and 25, and at the end of its sector 24.
 fn put_bytes(image: &mut [u8; 20480]) {
-    copy::put_part(image, 2560, b"SECTOR00", 0, 8);
-    copy::put_part(image, 11264, b"SECTOR09", 0, 8);
-    copy::put_part(image, 4864, b"SECTOR14", 0, 8);
-    copy::put_part(image, 5120, b"SECTOR15", 0, 8);
-    copy::put_part(image, 8958, b"PU", 0, 2);
-    copy::put_part(image, 6400, b"LS!", 0, 3);
+    image[2560..2568].copy_from_slice(b"SECTOR00");
+    image[11264..11272].copy_from_slice(b"SECTOR09");
+    image[4864..4872].copy_from_slice(b"SECTOR14");
+    image[5120..5128].copy_from_slice(b"SECTOR15");
+    image[8958..8960].copy_from_slice(b"PU");
+    image[6400..6403].copy_from_slice(b"LS!");
 }
 
 // What was asked, and the number.
 fn said(words: &[u8], number: u8) {
     io::write_all(1, words);
     io::write_all(1, b": ");
-    io::print_decimal(1, number as u64);
+    io::print_decimal(1, u64::from(number));
 }
 
 // A word and a number.
@@ -114,25 +98,16 @@ fn ended() {
 // Bytes as they are, a zero as a hyphen.
 fn shown(bytes: &[u8]) {
     io::write_all(1, b" ");
-    let mut i = 0;
-    while i < bytes.len() {
-        if bytes[i] == 0 {
-            io::write_all(1, b"-");
-        } else {
-            io::write_all(1, &bytes[i..i + 1]);
-        }
-        i += 1;
+    for &byte in bytes {
+        let shown = if byte == 0 { b'-' } else { byte };
+        io::write_all(1, &[shown]);
     }
 }
 
 // At most the first eight bytes.
 fn first_shown(bytes: &[u8]) {
-    if bytes.len() > 8 {
-        shown(&bytes[0..8]);
-        return;
-    }
-    if bytes.len() > 0 {
-        shown(bytes);
+    if !bytes.is_empty() {
+        shown(&bytes[..bytes.len().min(8)]);
     }
 }
 
@@ -192,7 +167,7 @@ fn read_short(image: &[u8], g: Geometry, words: &[u8], h: Handle) {
 
 fn read_sector(image: &[u8], g: Geometry, words: &[u8], h: Handle, k: usize) {
     let mut number = 0u8;
-    let mut at = 0usize;
+    let mut at = 0;
     let part = calls::read_sector(image, g, h, k, &mut number, &mut at);
     said(words, number);
     let place = calls::sector_part(image, g, h, k);
@@ -236,30 +211,22 @@ fn free_space(image: &[u8], g: Geometry, words: &[u8]) {
 
 // The handle at another position.
 fn placed(h: Handle, at: usize) -> Handle {
-    let mut moved = h;
-    moved.at = at;
-    moved
+    Handle { at, ..h }
 }
 
 // The handle with another slot.
 fn slotted(h: Handle, slot: usize) -> Handle {
-    let mut moved = h;
-    moved.slot = slot;
-    moved
+    Handle { slot, ..h }
 }
 
 // The handle with another level.
 fn levelled(h: Handle, level: usize) -> Handle {
-    let mut moved = h;
-    moved.level = level;
-    moved
+    Handle { level, ..h }
 }
 
 // The handle with record length 0.
 fn without_length(h: Handle) -> Handle {
-    let mut moved = h;
-    moved.len = 0;
-    moved
+    Handle { len: 0, ..h }
 }
 
 // Every call, asked alike: on the good disk each is accepted, else each is refused; but free space looks at the GAT alone.
