@@ -52,37 +52,26 @@ entry_new g d x n f {b} {h} l a e =
     ∙ ap (λ (k : ℕ). take 5 (nameless f) ++ n ++ drop (5 + k) (nameless f)) l in
     ap (λ (y : List ℕ). set (sets d (entry_at g x) y) (hit_at g x) h) z ∙ ap (set (sets d (entry_at g x) (new_entry n f)) (hit_at g x)) e
 
-first-is : (z y : ℕ) (ys : List ℕ) → first_or z (y ∷ ys) ≡ y
-unfolding first_or
-first-is z y ys = refl
-
-first-empty : (z : ℕ) → first_or z [] ≡ z
-unfolding first_or
-first-empty z = refl
-
--- the first free slot, 256 standing for none
+-- the first free slot, if there is one
 module _ (g : Geometry) (d : List ℕ) where
   free-slot : (y : ℕ) → In y (free_slots g d) → Slot g d y
   unfolding free_slots free_slot permitted
   free-slot y i = slot-of g d y (all-at _ (all-at _ (Members.T_true (Members.keep-in (free_slot g d) y (count 0 256) i).1) 0) 0)
 
-  pub slot-none : {x : ℕ} → x ≡ first_or 256 (free_slots g d) → x ≡ 256 → eqb (length (free_slots g d)) 0 ≡ true
-  slot-none {x} e z = by (free_slots g d) (free-slot) (sym z ∙ e)
+  pub slot-none : [] ≡ take 1 (free_slots g d) → eqb (length (free_slots g d)) 0 ≡ true
+  slot-none = by (free_slots g d)
     where
-      by : (l : List ℕ) → ((y : ℕ) → In y l → Slot g d y) → 256 ≡ first_or 256 l → eqb (length l) 0 ≡ true
-      by [] m q = refl
-      by (y ∷ ys) m q = let w = (m y Members.In.here).low in absurd (below q w)
-        where
-          below : 256 ≡ first_or 256 (y ∷ ys) → y < 256 → ⊥
-          below q w = let v : 256 ≡ y = q ∙ first-is 256 y ys in omega arith
+      by : (l : List ℕ) → [] ≡ take 1 l → eqb (length l) 0 ≡ true
+      by [] e = refl
+      by (y ∷ ys) e = cc
 
-  pub slot-some : {x : ℕ} → x ≡ first_or 256 (free_slots g d) → (x ≡ 256 → ⊥) → (x ≡ new_slot g d) × (eqb (length (free_slots g d)) 0 ≡ false) × Slot g d x
-  slot-some {x} e z = by (free_slots g d) free-slot e
+  pub slot-some : {x : ℕ} → x ∷ [] ≡ take 1 (free_slots g d) → (x ≡ new_slot g d) × (eqb (length (free_slots g d)) 0 ≡ false) × Slot g d x
+  unfolding first_or
+  slot-some {x} = by (free_slots g d) free-slot
     where
-      by : (l : List ℕ) → ((y : ℕ) → In y l → Slot g d y) → x ≡ first_or 256 l → (x ≡ first_or 0 l) × (eqb (length l) 0 ≡ false) × Slot g d x
-      by [] m q = absurd (z (q ∙ first-empty 256))
-      by (y ∷ ys) m q = let v : x ≡ y = q ∙ first-is 256 y ys in
-          (v ∙ sym (first-is 0 y ys), ne_eqb (suc (length ys)) 0 (λ q. omega arith), rw v (m y Members.In.here))
+      by : (l : List ℕ) → ((y : ℕ) → In y l → Slot g d y) → x ∷ [] ≡ take 1 l → (x ≡ first_or 0 l) × (eqb (length l) 0 ≡ false) × Slot g d x
+      by [] m e = cc
+      by (y ∷ ys) m e = let v : x ≡ y = cc in (v, ne_eqb (suc (length ys)) 0 (λ q. omega arith), rw v (m y Members.In.here))
 
 -- the answers, of the name n that came in: the file is that of its fold
 module _ (g : Geometry) (d n : List ℕ) (f : NewFile) (checking : Bool) where

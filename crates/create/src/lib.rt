@@ -11,19 +11,11 @@ ghost use Rattle.meaning.specs.Create.{create, with_entry};
 use meaning::{Created, Geometry, Handle, NewFile, Refusal};
 
 // Date and record length are in range.
+#[tactic(auto, unfolding(meaning::specs::Refusals::new_in_range, meaning::specs::Lists::all))]
 fn in_range(f: NewFile) -> bool
     ensures { result ≡ new_in_range f }
 {
-    if 31 < f.day {
-        return false;
-    }
-    if 15 < f.month {
-        return false;
-    }
-    if 15 < f.year {
-        return false;
-    }
-    handle::good_length(f.len)
+    f.day <= 31 && f.month <= 15 && f.year <= 15 && handle::good_length(f.len)
 }
 
 // A new file of that name in slot x: all 32 bytes of its entry, and its HIT byte.
@@ -107,21 +99,19 @@ pub fn create_checked(
             handle: look_up::no_handle(),
         };
     }
-    let found = look_up::find(image, g, &n.name);
-    if found.is {
-        if !look_up::admits(image, g, found.slot, checking, f.main) {
+    if let Some(slot) = look_up::find(image, g, &n.name).slot {
+        if !look_up::admits(image, g, slot, checking, f.main) {
             return refused(checked, 5);
         }
         return Created {
             refusal: refusal::carried(checked, 0),
             old: true,
-            handle: look_up::opened_at(image, g, found.slot, &n.name, f.len, checking, f.main),
+            handle: look_up::opened_at(image, g, slot, &n.name, f.len, checking, f.main),
         };
     }
-    let x = space::first_free_slot(image, g);
-    if x == 256 {
+    let Some(x) = space::first_free_slot(image, g) else {
         return refused(checked, 8);
-    }
+    };
     put_entry(image, g, x, &n.name, f);
     Created {
         refusal: refusal::carried(checked, 0),

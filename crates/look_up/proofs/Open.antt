@@ -1,4 +1,4 @@
--- The password rule, and open's answers.
+-- Open's answers.
 use mathlib.Core.Path.{◌≡◌, sym, ap, ◌∙◌}
 use mathlib.Core.List.{List, [], ◌∷◌}
 use mathlib.Core.Bool.{Bool, true, false, not, cond}
@@ -17,17 +17,6 @@ use Rattle.meaning.specs.declared.Answer.{Answer}
 use Rattle.meaning.specs.declared.Refusal.{Refusal}
 
 module _ (g : Geometry) (d n : List ℕ) (len : ℕ) (checking : Bool) (code : ℕ) where
-  pub level-full : (s : ℕ) {level : ℕ} → level ≡ 0 → full g d s checking code ≡ true → level ≡ cond (full g d s checking code) 0 (access_level g d s)
-  level-full s e h = e ∙ sym (ap (λ (b : Bool). cond b 0 (access_level g d s)) h)
-
-  pub level-stored : (s : ℕ) {level : ℕ} → level ≡ access_level g d s → full g d s checking code ≡ false → level ≡ cond (full g d s checking code) 0
-      (access_level g d s)
-  level-stored s e h = e ∙ sym (ap (λ (b : Bool). cond b 0 (access_level g d s)) h)
-
-  pub opened : {s level : ℕ} {m : List ℕ} → m ≡ n → level ≡ cond (full g d s checking code) 0 (access_level g d s)
-      → ◌≡◌ {A = Handle} (record { slot = s; name = m; at = 0; len = len; level = level }) (opened_at g d s n len checking code)
-  opened e f = rw (e, f)
-
   pub slot-found : {s : ℕ} → named g d n ≡ s ∷ [] → slot_of g d n ≡ s
   unfolding first_or
   slot-found e = ap (first_or 0) e

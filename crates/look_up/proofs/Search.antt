@@ -1,14 +1,16 @@
 -- The search, slot by slot, and the refusals of look up.
-use mathlib.Core.Path.{◌≡◌, sym, ap, ◌∙◌}
+use mathlib.Core.Path.{◌≡◌, sym, ap, subst, ◌∙◌}
+use Rattle.std.specs.Prelude.{Option, None, Some, IfSome}
+use Rattle.std.specs.Option.{option_to_list}
 use mathlib.Core.Logic.{◌⊎◌, inl, inr}
 use mathlib.Core.List.{List, [], ◌∷◌}
-use mathlib.Core.Bool.{Bool, true, false, not, cond}
+use mathlib.Core.Bool.{Bool, true, false, cond}
 use Prim.Native.Nat.{ℕ, suc, ◌+◌, ◌-◌, ◌*◌, ◌/◌, ◌%◌, ◌≤◌, ◌<◌}
 use native.Mathlib.Omega.{arith}
 use native.Mathlib.Nat.{zero-add}
 use lib.ListN.{take}
 use lib.Dec.{eqb}
-use borrow.Author.Tests.{not-true, not-false, ne_eqb}
+use borrow.Author.Tests.{ne_eqb}
 use Rattle.meaning.specs.Lists.{keep, has, first_or}
 use Rattle.meaning.specs.Layout.{hit, directory_sectors}
 use Rattle.meaning.specs.Names.{hash, fold}
@@ -21,6 +23,7 @@ use Rattle.lists.specs.Members
 use Rattle.lists.specs.First.{first-in}
 use Rattle.lists.specs.Tests.{keep-yes, keep-no}
 use Rattle.passed.proofs.Checked.{check-stop}
+use Rattle.layout.specs.Room.{Slot}
 use Rattle.look_up.specs.Found.{Finds}
 use Rattle.look_up.specs.declared.Found.{Found}
 use Rattle.look_up.proofs.Named.{by-check}
@@ -92,22 +95,22 @@ module _ (g : Geometry) (d n : List ℕ) where
 
     -- both are there
     pub finding-hit : {c : ℕ} → s % 32 < columns → eqb (hit g d s) (hash n) ≡ true → carries g d n s ≡ true → Finding s c
-        → Finds g d n (record { is = true; slot = s; compared = c + 1 })
+        → Finds g d n (record { slot = Some s; compared = c + 1 })
     finding-hit {c} h k w f =
         let rest = hashed (slots_from g d (s + 1)) in
         record {
           slot = (rw (one h k) at f.slot) ∙ ap (take 1) (keep-yes (carries g d n) w rest);
           compared = sym ((rw (one h k) at f.compared) ∙ ap (λ (x : ℕ). c + x) (compared-yes s w rest));
-          held = λ q. record { low = l; held = omega arith };
+          held = record { low = l; held = omega arith };
         }
 
-  pub finding-end : {s c : ℕ} → 256 ≤ s → Finding s c → Finds g d n (record { is = false; slot = 0; compared = c })
+  pub finding-end : {s c : ℕ} → 256 ≤ s → Finding s c → Finds g d n (record { slot = None; compared = c })
   unfolding hashed compared_in
   finding-end {s} {c} h f =
       record {
         slot = f.slot ∙ ap (λ (l : List ℕ). take 1 (keep (carries g d n) (hashed l))) (slots_end g d h);
         compared = sym (f.compared ∙ ap (λ (l : List ℕ). c + compared_in g d n (hashed l)) (slots_end g d h) ∙ (let z : c + 0 ≡ c = omega arith in z));
-        held = λ q. absurd (let z : ◌≡◌ {A = ℕ} 0 1 = cc in let y : ⊥ = omega arith in y);
+        held = tt;
       }
 
   pub finding-count : {s c c' : ℕ} → c' ≡ c → Finding s c → Finding s c'
@@ -125,11 +128,14 @@ module _ (g : Geometry) (d n : List ℕ) where
   pub finds-as : {m : List ℕ} {r : Found} → m ≡ n → Finds g d m r → Finds g d n r
   finds-as e f = rw e at f
 
-  pub finds-none : {r : Found} → Finds g d n r → not r.is ≡ true → named g d n ≡ []
-  finds-none {r} f h = f.slot ∙ ap (λ (b : Bool). cond b (r.slot ∷ []) []) (not-true r.is h)
+  pub finds-none : {r : Found} → Finds g d n r → r.slot ≡ None → named g d n ≡ []
+  finds-none f e = f.slot ∙ ap option_to_list e
 
-  pub finds-one : {r : Found} → Finds g d n r → not r.is ≡ false → named g d n ≡ r.slot ∷ []
-  finds-one {r} f h = f.slot ∙ ap (λ (b : Bool). cond b (r.slot ∷ []) []) (not-false r.is h)
+  pub finds-one : {r : Found} {s : ℕ} → Finds g d n r → r.slot ≡ Some s → named g d n ≡ s ∷ []
+  finds-one f e = f.slot ∙ ap option_to_list e
+
+  pub finds-slot : {r : Found} {s : ℕ} → Finds g d n r → r.slot ≡ Some s → Slot g d s
+  finds-slot f e = subst (λ (o : Option ℕ). IfSome o (Slot g d)) e f.held
 
 module _ (g : Geometry) (d : List ℕ) where
   -- the check answers 0, 1 or 21 to 30

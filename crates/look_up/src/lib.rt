@@ -12,10 +12,10 @@ ghost use Rattle.look_up.specs.Found.{Finds};
 
 use meaning::{Answer, Geometry, Handle, LookedUp, Refusal};
 
+// The slot of the file that a search found, if any; and how many entries were compared.
 #[derive(Clone, Copy)]
 pub struct Found {
-    pub is: bool,
-    pub slot: usize,
+    pub slot: Option<usize>,
     pub compared: usize,
 }
 
@@ -24,10 +24,7 @@ pub fn carries(image: &[u8], g: Geometry, s: usize, name: &[u8]) -> bool
     requires { Room g image.now × Slot g image.now s × (length name.now ≡ 11) }
     ensures { result ≡ carries g image.now name.now s }
 {
-    if !layout::primary(image, g, s) {
-        return false;
-    }
-    layout::same_name(image, layout::name_at(image, g, s), name)
+    layout::primary(image, g, s) && layout::same_name(image, layout::name_at(image, g, s), name)
 }
 
 // The first slot of that name, by rising slot number, and how many entries were compared. Only the slots that the directory has are
@@ -39,28 +36,21 @@ pub fn find(image: &[u8], g: Geometry, name: &[u8]) -> Found
     let h = name_hash::hash(name);
     let columns = layout::columns(image, g);
     let mut compared = 0;
-    let mut row = 0;
-    while row < 8 {
-        let mut s = 32 * row;
-        let end = s + columns;
-        while s < end {
+    for row in 0..8 {
+        for s in 32 * row..32 * row + columns {
             if layout::hit(image, g, s) == h {
                 compared += 1;
                 if carries(image, g, s, name) {
                     return Found {
-                        is: true,
-                        slot: s,
+                        slot: Some(s),
                         compared,
                     };
                 }
             }
-            s += 1;
         }
-        row += 1;
     }
     Found {
-        is: false,
-        slot: 0,
+        slot: None,
         compared,
     }
 }
@@ -86,16 +76,16 @@ pub fn look_up_checked(image: &[u8], g: Geometry, name: &[u8], checked: Refusal)
         };
     }
     let f = find(image, g, &n.name);
-    if !f.is {
+    let Some(slot) = f.slot else {
         return LookedUp {
             refusal: refusal::carried(checked, 4),
             slot: 0,
             compared: f.compared,
         };
-    }
+    };
     LookedUp {
         refusal: refusal::carried(checked, 0),
-        slot: f.slot,
+        slot,
         compared: f.compared,
     }
 }
@@ -106,35 +96,29 @@ fn name_array(name: &[u8]) -> [u8; 11]
     ensures { result ≡ name.now }
 {
     let mut bytes = [0u8; 11];
-    copy::copy_into(&mut bytes, name, 0);
+    bytes.copy_from_slice(name);
     bytes
 }
 
 // Whether a code opens the file at slot s at level 0: checking is off, the main code is the "no password" code, or the code is the main
 // code.
+#[tactic(auto, unfolding(meaning::specs::Open::full, meaning::specs::Lists::any))]
 pub fn full(image: &[u8], g: Geometry, s: usize, checking: bool, code: u16) -> bool
     requires { Room g image.now × Slot g image.now s }
     ensures { result ≡ full g image.now s checking code }
 {
-    if !checking {
-        return true;
-    }
     let main = layout::word(image, g, s, layout::MAIN_CODE);
-    if main == g.noPassword as usize {
-        return true;
-    }
-    code as usize == main
+    !checking || main == usize::from(g.noPassword) || usize::from(code) == main
 }
 
 // Whether a code opens the file at all: at level 0, or because it is the worker code.
+#[tactic(auto, unfolding(meaning::specs::Open::admits, meaning::specs::Lists::any))]
 pub fn admits(image: &[u8], g: Geometry, s: usize, checking: bool, code: u16) -> bool
     requires { Room g image.now × Slot g image.now s }
     ensures { result ≡ admits g image.now s checking code }
 {
-    if full(image, g, s, checking, code) {
-        return true;
-    }
-    code as usize == layout::word(image, g, s, layout::WORKER_CODE)
+    full(image, g, s, checking, code)
+        || usize::from(code) == layout::word(image, g, s, layout::WORKER_CODE)
 }
 
 // The handle of a file just opened: the stored level where only the worker code fits.
@@ -150,10 +134,11 @@ pub fn opened_at(
     requires { Room g image.now × Slot g image.now s × (length name.now ≡ 11) }
     ensures { result ≡ opened_at g image.now s name.now len checking code }
 {
-    let mut level = 0;
-    if !full(image, g, s, checking, code) {
-        level = layout::field(image, g, s, layout::FLAGS) % 8;
-    }
+    let level = if full(image, g, s, checking, code) {
+        0
+    } else {
+        layout::field(image, g, s, layout::FLAGS) % 8
+    };
     Handle {
         slot: s,
         name: name_array(name),
@@ -212,15 +197,14 @@ pub fn open_checked(
             handle: no_handle(),
         };
     }
-    let f = find(image, g, &n.name);
-    if !f.is {
+    let Some(slot) = find(image, g, &n.name).slot else {
         return refused(checked, 4);
-    }
-    if !admits(image, g, f.slot, checking, code) {
+    };
+    if !admits(image, g, slot, checking, code) {
         return refused(checked, 5);
     }
     Answer {
         refusal: refusal::carried(checked, 0),
-        handle: opened_at(image, g, f.slot, &n.name, len, checking, code),
+        handle: opened_at(image, g, slot, &n.name, len, checking, code),
     }
 }

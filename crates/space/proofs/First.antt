@@ -8,6 +8,7 @@ use native.Mathlib.Nat.{eq-or-lt_of_le}
 use native.Mathlib.Omega.{arith}
 use borrow.Author.Tests.{lt-ltb, le-ltb, eq-eqb, ne_eqb}
 use lib.Dec.{ltb, eqb}
+use lib.ListN.{take}
 use Rattle.meaning.specs.Lists.{count, keep, all, first_or}
 use Rattle.meaning.specs.Layout.{directory_sectors, is_slot, hit}
 use Rattle.meaning.specs.Free.{free_slots, free_slot, permitted, kept}
@@ -24,14 +25,21 @@ pub none-step : (p : ℕ → Bool) (m : ℕ) {m' : ℕ} → NoneBelow p m → p 
 none-step p m all here e k h =
     ⊎_elim (λ (q : k ≡ m). subst (λ (j : ℕ). p j ≡ false) (sym q) here) (λ (q : k < m). all k q) (eq-or-lt_of_le (omega arith))
 
+pub keep-first : (p : ℕ → Bool) (n i x : ℕ) → i ≤ x → x < i + n → NoneBelow p x → p x ≡ true → take 1 (keep p (count i n)) ≡ x ∷ []
+keep-first p zero i x h l none yes' = absurd (let q : ⊥ = omega arith in q)
+keep-first p (suc n) i x h l none yes' =
+    ⊎_elim
+    (λ (q : i ≡ x). ap (take 1) (keep-yes p {x = i} (ap p q ∙ yes') (count (i + 1) n)) ∙ ap (λ (k : ℕ). k ∷ []) q)
+    (λ (q : i < x). ap (take 1) (keep-no p {x = i} (none i q) (count (i + 1) n)) ∙ keep-first p n (i + 1) x (omega arith) (omega arith) none yes')
+    (eq-or-lt_of_le h)
+
 pub first-at : (p : ℕ → Bool) (z n i x : ℕ) → i ≤ x → x < i + n → NoneBelow p x → p x ≡ true → first_or z (keep p (count i n)) ≡ x
 unfolding first_or
-first-at p z zero i x h l none yes' = absurd (let q : ⊥ = omega arith in q)
-first-at p z (suc n) i x h l none yes' =
-    ⊎_elim
-    (λ (q : i ≡ x). ap (first_or z) (keep-yes p {x = i} (ap p q ∙ yes') (count (i + 1) n)) ∙ q)
-    (λ (q : i < x). ap (first_or z) (keep-no p {x = i} (none i q) (count (i + 1) n)) ∙ first-at p z n (i + 1) x (omega arith) (omega arith) none yes')
-    (eq-or-lt_of_le h)
+first-at p z n i x h l none yes' = by (keep p (count i n)) (keep-first p n i x h l none yes')
+  where
+    by : (xs : List ℕ) → take 1 xs ≡ x ∷ [] → first_or z xs ≡ x
+    by [] e = cc
+    by (y ∷ ys) e = cc
 
 pub keep-none : (p : ℕ → Bool) (n i : ℕ) → NoneBelow p (i + n) → keep p (count i n) ≡ []
 keep-none p zero i none = refl
@@ -116,10 +124,10 @@ module _ (g : Geometry) (d : List ℕ) where
   none_row {row} {s} {n} {m} l e h q none k b =
       ⊎_elim (λ (w : 32 * row + s ≤ k). slot-past k (omega arith) (omega arith)) (λ (w : k < 32 * row + s). none k w) (le-or-lt (32 * row + s) k)
 
-  pub slots-first : (x : ℕ) → x < 256 → NoneBelow (free_slot g d) x → free_slot g d x ≡ true → x ≡ first_or 256 (free_slots g d)
+  pub slots-first : (x : ℕ) → x < 256 → NoneBelow (free_slot g d) x → free_slot g d x ≡ true → x ∷ [] ≡ take 1 (free_slots g d)
   unfolding free_slots
-  slots-first x h none f = sym (first-at (free_slot g d) 256 256 0 x (omega arith) h none f)
+  slots-first x h none f = sym (keep-first (free_slot g d) 256 0 x (omega arith) h none f)
 
-  pub slots-none : NoneBelow (free_slot g d) 256 → 256 ≡ first_or 256 (free_slots g d)
-  unfolding free_slots first_or
-  slots-none none = sym (ap (first_or 256) (keep-none (free_slot g d) 256 0 none))
+  pub slots-none : NoneBelow (free_slot g d) 256 → [] ≡ take 1 (free_slots g d)
+  unfolding free_slots
+  slots-none none = sym (ap (take 1) (keep-none (free_slot g d) 256 0 none))

@@ -1,8 +1,9 @@
 // Granules taken and given back, entries cleared; the free slots and granules.
 #![tactic(auto)]
 
-ghost use Rattle.std.specs.Prelude.{◌≡◌, ◌+◌, ◌*◌, ◌%◌, ◌<◌, ◌≤◌, length, eqb, [], ◌∷◌};
-ghost use Rattle.meaning.specs.Lists.{count, each, through, first_or, all, every, some};
+ghost use Rattle.std.specs.Prelude.{◌≡◌, ◌+◌, ◌*◌, ◌%◌, ◌<◌, ◌≤◌, length, take, eqb, [], ◌∷◌};
+ghost use Rattle.std.specs.Option.{option_to_list};
+ghost use Rattle.meaning.specs.Lists.{count, each, through, all, every, some};
 ghost use Rattle.meaning.specs.Free.{free_granules, free_slots};
 ghost use Rattle.meaning.specs.Layout.{granules, taken, take_granule, free_granule, most_units};
 ghost use Rattle.meaning.specs.Kill.{kill_entry};
@@ -187,27 +188,21 @@ pub fn kept_columns(g: Geometry, row: usize) -> usize
     }
 }
 
-// The first permitted slot with HIT byte 0, by rising slot number; 256 where there is none. A row begins behind its kept slots.
-pub fn first_free_slot(image: &[u8], g: Geometry) -> usize
+// The first permitted slot with HIT byte 0, by rising slot number, if there is one. A row begins behind its kept slots.
+pub fn first_free_slot(image: &[u8], g: Geometry) -> Option<usize>
     requires { Room g image.now }
-    ensures { result ≡ first_or 256 (free_slots g image.now) }
+    ensures { option_to_list result ≡ take 1 (free_slots g image.now) }
 {
     let n = layout::columns(image, g);
-    let mut found = 256;
-    let mut row = 0;
-    'rows: while row < 8 {
-        let mut s = kept_columns(g, row);
-        while s < n {
+    for row in 0..8 {
+        for s in kept_columns(g, row)..n {
             let slot = 32 * row + s;
             if layout::hit(image, g, slot) == 0 {
-                found = slot;
-                break 'rows;
+                return Some(slot);
             }
-            s += 1;
         }
-        row += 1;
     }
-    found
+    None
 }
 
 // How many of the lowest bits of a GAT byte are clear.

@@ -11,7 +11,7 @@ use Rattle.lists.specs.Tests.{is-false, is-true, not-no, not_yes}
 use Rattle.layout.proofs.OneStep.{well-length}
 use Rattle.passed.proofs.Checked.{checked, checked-room}
 use Rattle.look_up.proofs.Named.{by-own, by_place, by_number}
-use Rattle.look_up.proofs.Search.{finds-as, finds-none, finds-one}
+use Rattle.look_up.proofs.Search.{finds-as, finds-none, finds-one, finds-slot}
 use Rattle.create.proofs.Creating.{by-check, by_code, by_name, by-range, by-slot, is-new, is-old, made, opened, slot-none, slot-some, told}
 use Prim.Native.Nat.{ℕ}
 use Rattle.create.proofs.create_checked.Goals as goal
@@ -35,14 +35,14 @@ returns-then-n-ne-NO_PLACE c = told _ _ _ _ _
     (is-true c.in_range.ensures c.if-not-in_range.false)
     (hands-bad c.incoming-n.ensures c.if-n-ne-NO_PLACE.true)) (λ z. omega arith)
 
-pub find-found-requires : goal.find-found-requires
-find-found-requires c = let if3 = c.if-n-ne-NO_PLACE in let incoming = c.incoming-n in let if1 = c.if-checked-ne0 in let p = c.requires in (
+pub find-requires : goal.find-requires
+find-requires c = let if3 = c.if-n-ne-NO_PLACE in let incoming = c.incoming-n in let if1 = c.if-checked-ne0 in let p = c.requires in (
   checked-room _ _ (checked _ _ p if1.false),
   (ap length (hands-name incoming.ensures if3.false) ∙ well-length _ (hands-good incoming.ensures if3.false)),
 )
 
 pub admits-requires : goal.admits-requires
-admits-requires c = let if1 = c.if-checked-ne0 in let p = c.requires in (checked-room _ _ (checked _ _ p if1.false), c.find-found.ensures.held c.if-found.true)
+admits-requires c = let if1 = c.if-checked-ne0 in let p = c.requires in (checked-room _ _ (checked _ _ p if1.false), finds-slot _ _ _ c.find.ensures c.in-Some.is)
 
 pub returns-then-not-admits : goal.returns-then-not-admits
 returns-then-not-admits c = told _ _ _ _ _
@@ -55,21 +55,21 @@ returns-then-not-admits c = told _ _ _ _ _
     (finds-one _ _ _ (finds-as _ _ _
     (hands-name c.incoming-n.ensures
     c.if-n-ne-NO_PLACE.false)
-    c.find-found.ensures) (not_yes c.if-found.true))
+    c.find.ensures) c.in-Some.is)
     (is-false c.admits.ensures c.if-not-admits.true)) (λ z. omega arith)
 
 pub opened_at-requires : goal.opened_at-requires
-opened_at-requires c = let if4 = c.if-found in let find = c.find-found in let if3 = c.if-n-ne-NO_PLACE in let incoming = c.incoming-n in
+opened_at-requires c = let find = c.find in let if3 = c.if-n-ne-NO_PLACE in let incoming = c.incoming-n in
     let if1 = c.if-checked-ne0 in let p = c.requires in (
       checked-room _ _ (checked _ _ p if1.false),
-      find.ensures.held if4.true,
+      finds-slot _ _ _ find.ensures c.in-Some.is,
       (ap length (hands-name incoming.ensures if3.false) ∙ well-length _ (hands-good incoming.ensures if3.false)),
     )
 
-pub returns-then-found : goal.returns-then-found
-returns-then-found c = let e = finds-one _ _ _
-    (finds-as _ _ _ (hands-name c.incoming-n.ensures c.if-n-ne-NO_PLACE.false) c.find-found.ensures)
-    (not_yes c.if-found.true) in
+pub returns-in-Some : goal.returns-in-Some
+returns-in-Some c = let e = finds-one _ _ _
+    (finds-as _ _ _ (hands-name c.incoming-n.ensures c.if-n-ne-NO_PLACE.false) c.find.ensures)
+    c.in-Some.is in
     opened _ _ _ _ _ (by_number _ _ _
     c.requires 0 (λ z. omega arith) c.carried.ensures)
     (is-old _ _ _ _ _ c.requires
@@ -79,18 +79,18 @@ returns-then-found c = let e = finds-one _ _ _
     (c.opened_at.ensures ∙ ap (λ (m : List ℕ). opened_at
     c.args.g
     c.args.image.now
-    c.find-found.result.slot m
+    c.in-Some.slot m
     c.args.f.len
     c.args.checking
     c.args.f.main)
     (hands-name c.incoming-n.ensures c.if-n-ne-NO_PLACE.false))
 
-pub first_free_slot-x-requires : goal.first_free_slot-x-requires
-first_free_slot-x-requires c = let if1 = c.if-checked-ne0 in let p = c.requires in checked-room _ _ (checked _ _ p if1.false)
+pub first_free_slot-requires : goal.first_free_slot-requires
+first_free_slot-requires c = let if1 = c.if-checked-ne0 in let p = c.requires in checked-room _ _ (checked _ _ p if1.false)
 
-pub returns-then-x-eq256 : goal.returns-then-x-eq256
-returns-then-x-eq256 c = told _ _ _ _ _
-    (by_number _ _ _ c.requires 8 (λ z. omega arith) refl) c.refused-then-x-eq256.ensures
+pub returns-in_default-first_free_slot : goal.returns-in_default-first_free_slot
+returns-in_default-first_free_slot c = told _ _ _ _ _
+    (by_number _ _ _ c.requires 8 (λ z. omega arith) refl) c.refused-in_default-first_free_slot.ensures
     (by-slot _ _ _ _ _ c.requires c.if-checked-ne0.false
     (is-true c.in_range.ensures
     c.if-not-in_range.false)
@@ -99,15 +99,14 @@ returns-then-x-eq256 c = told _ _ _ _ _
     (finds-none _ _ _ (finds-as _ _ _
     (hands-name c.incoming-n.ensures
     c.if-n-ne-NO_PLACE.false)
-    c.find-found.ensures) (not-no c.if-found.false))
-    (slot-none _ _ c.first_free_slot-x.ensures c.if-x-eq256.true)) (λ z. omega arith)
+    c.find.ensures) c.in_default.is)
+    (slot-none _ _ c.in_default-first_free_slot.ensures)) (λ z. omega arith)
 
 pub put_entry-requires : goal.put_entry-requires
-put_entry-requires c = let if6 = c.if-x-eq256 in let first-free-slot = c.first_free_slot-x in let if3 = c.if-n-ne-NO_PLACE in
+put_entry-requires c = let if3 = c.if-n-ne-NO_PLACE in
     let incoming = c.incoming-n in let if2 = c.if-not-in_range in let in-range = c.in_range in let a = c.args in
-    let w = slot-some a.g a.image.now first-free-slot.ensures
-    if6.false in (
-      entry-fits a.g a.image.now first-free-slot.result
+    let w = slot-some a.g a.image.now c.in-Some-first_free_slot.ensures in (
+      entry-fits a.g a.image.now c.in-Some-first_free_slot.x
           (checked-room a.g a.image.now (checked a.g a.image.now
           c.requires c.if-checked-ne0.false)) w.2,
       w.2.low,
@@ -120,12 +119,11 @@ put_entry-requires c = let if6 = c.if-x-eq256 in let first-free-slot = c.first_f
     )
 
 pub returns : goal.returns
-returns c = let a = c.args in let w = slot-some a.g a.image.now c.first_free_slot-x.ensures
-    c.if-x-eq256.false in
+returns c = let a = c.args in let w = slot-some a.g a.image.now c.in-Some-first_free_slot.ensures in
     let e = finds-none _ _ _ (finds-as _ _ _
     (hands-name c.incoming-n.ensures c.if-n-ne-NO_PLACE.false)
-    c.find-found.ensures)
-    (not-no c.if-found.false) in
+    c.find.ensures)
+    c.in_default.is in
     made _ _ _ _ _ (by_number _ _ _
     c.requires 0 (λ z. omega arith) c.carried-2.ensures)
     (is-new _ _ _ _ _ c.requires
@@ -136,6 +134,6 @@ returns c = let a = c.args in let w = slot-some a.g a.image.now c.first_free_slo
     (hands-name c.incoming-n.ensures c.if-n-ne-NO_PLACE.false) (c.put_entry.ensures ∙ ap
     (λ (m : List ℕ). with_entry c.args.g
     c.args.image.now
-    c.first_free_slot-x.result m
+    c.in-Some-first_free_slot.x m
     c.args.f)
     (hands-name c.incoming-n.ensures c.if-n-ne-NO_PLACE.false))

@@ -1,6 +1,6 @@
 use native.Mathlib.Omega.{arith}
 use borrow.Author.Tests.{eq-eqb, ne_eqb}
-use Prim.Native.Nat.{ℕ, ◌-◌}
+use Prim.Native.Nat.{ℕ}
 use mathlib.Core.Path.{sym, ◌∙◌, subst}
 use Rattle.look_up.proofs.Pass.{row-start, row-slot, row_here, row_next, row-past, row-after}
 use Rattle.look_up.proofs.Search.{Finding, finding-start, finding-past, finding-other, finding-miss, finding-hit, finding-end, finding-count}
@@ -8,11 +8,11 @@ use Rattle.look_up.proofs.find.Goals as goal
 use Rattle.look_up.proofs.find.Goals.{then-hit-h+else-carries, else-hit-h}
 
 pub loop-row-init : goal.loop-row-init
-loop-row-init c = (omega arith, omega arith, finding-start _ _ _)
+loop-row-init c = (omega arith, finding-start _ _ _)
 
 pub loop-s-init : goal.loop-s-init
 loop-s-init c = let e = c.columns-columns.ensures.is in let t = c.requires.0.thirty in
-    (row-start _ _ c.loop-row-test.true (omega arith), c.loop-row.invariant.1, c.loop-row.invariant.2)
+    (row-start _ _ c.loop-row-test.true (omega arith), c.loop-row.invariant.0, c.loop-row.invariant.1)
 
 pub hit-requires : goal.hit-requires
 hit-requires c = let r = row-slot c.loop-s.invariant.0 (let z = c.loop-s-test.true in omega arith) in
@@ -39,12 +39,6 @@ returns-then-carries c = finding-hit _ _ _ (row-slot c.loop-s.invariant.0
     c.hash-h.ensures.is)) (sym c.carries.ensures ∙ c.if-carries.true)
     c.loop-s.invariant.2
 
-pub overflow_add-s : goal.overflow_add-s
-overflow_add-s c = let r = row-slot c.loop-s.invariant.0 (let z = c.loop-s-test.true in omega arith) in omega arith
-
-pub loop-s-smaller : goal.loop-s-smaller
-loop-s-smaller c = let z = c.loop-s-test.true in omega arith
-
 pub loop-s-preserved : goal.loop-s-preserved
 loop-s-preserved c = let e = c.columns-columns.ensures.is in let l = row-slot c.loop-s.invariant.0 (let z = c.loop-s-test.true in omega arith) in
     let h = row_here c.loop-s.invariant.0 c.loop-s-test.true in let q = c.loop-s.invariant.1 in let f = c.loop-s.invariant.2 in elim c.if-hit-h.branch [
@@ -65,12 +59,8 @@ loop-s-preserved c = let e = c.columns-columns.ensures.is in let l = row-slot c.
       )
     ]
 
-pub loop-row-smaller : goal.loop-row-smaller
-loop-row-smaller c = let z = c.loop-row-test.true in omega arith
-
 pub loop-row-preserved : goal.loop-row-preserved
 loop-row-preserved c = let i = c.loop-s.invariant.0 in let a = i.ends in let b = i.few in let q = c.loop-s.invariant.1 in let r = c.loop-row-test.true in (
-  omega arith,
   omega arith,
   subst (λ (k : ℕ). Finding c.args.g
       c.args.image.now
@@ -80,4 +70,4 @@ loop-row-preserved c = let i = c.loop-s.invariant.0 in let a = i.ends in let b =
 )
 
 pub returns : goal.returns
-returns c = finding-end _ _ _ (let z = c.loop-row-test.false in omega arith) c.loop-row.invariant.2
+returns c = finding-end _ _ _ (omega arith) c.loop-row.invariant.1

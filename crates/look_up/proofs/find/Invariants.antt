@@ -1,4 +1,4 @@
-use Prim.Native.Nat.{◌-◌, ◌≤◌, ◌*◌}
+use Prim.Native.Nat.{◌≤◌, ◌*◌}
 use Rattle.look_up.proofs.Pass.{InRow}
 use Rattle.look_up.proofs.Search.{Finding}
 use Rattle.look_up.proofs.find.Given as goal
@@ -6,11 +6,5 @@ use Rattle.look_up.proofs.find.Given as goal
 abbrev pub invariant-loop-s : goal.invariant-loop-s
 invariant-loop-s l = InRow l.row l.columns l.s × (l.compared ≤ l.s) × Finding l.g l.image l.name l.s l.compared
 
-abbrev pub decreases-loop-s : goal.decreases-loop-s
-decreases-loop-s l = l.end - l.s
-
 abbrev pub invariant-loop-row : goal.invariant-loop-row
-invariant-loop-row l = (l.row ≤ 8) × (l.compared ≤ 32 * l.row) × Finding l.g l.image l.name (32 * l.row) l.compared
-
-abbrev pub decreases-loop-row : goal.decreases-loop-row
-decreases-loop-row l = 8 - l.row
+invariant-loop-row l = (l.compared ≤ 32 * l.row) × Finding l.g l.image l.name (32 * l.row) l.compared

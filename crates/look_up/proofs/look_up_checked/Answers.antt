@@ -31,11 +31,11 @@ find-f-requires c = let if2 = c.if-n-ne-NO_PLACE in let incoming = c.incoming-n 
 )
 
 -- src/lib.rt:95:9
-pub returns-then-not-f : goal.returns-then-not-f
-returns-then-not-f c = let f = finds-as _ _ _
+pub returns-in_default : goal.returns-in_default
+returns-in_default c = let f = finds-as _ _ _
     (hands-name c.incoming-n.ensures
     c.if-n-ne-NO_PLACE.false) c.find-f.ensures in
-    let e = finds-none _ _ _ f c.if-not-f.true in
+    let e = finds-none _ _ _ f c.in_default.is in
     told _ _ _ (by_number _ _ _ c.requires 4
     (λ z. omega arith) c.carried.ensures)
     (sym (check-then _ _ _ c.requires
@@ -50,7 +50,7 @@ unfolding first_or
 returns c = let f = finds-as _ _ _
     (hands-name c.incoming-n.ensures
     c.if-n-ne-NO_PLACE.false) c.find-f.ensures in
-    let e = finds-one _ _ _ f c.if-not-f.false in
+    let e = finds-one _ _ _ f c.in-Some.is in
     told _ _ _ (by_number _ _ _ c.requires 0
     (λ z. omega arith) c.carried-2.ensures)
     (sym (check-then _ _ _ c.requires

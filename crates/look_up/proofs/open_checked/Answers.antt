@@ -1,10 +1,10 @@
 use Rattle.look_up.proofs.Open.{admitted, open-accepted, open-refused}
-use Rattle.look_up.proofs.Search.{finds-as, finds-none, finds-one}
+use Rattle.look_up.proofs.Search.{finds-as, finds-none, finds-one, finds-slot}
 use Rattle.look_up.proofs.Named.{by-own, by_place, by_number}
 use Rattle.name_spelling.proofs.Comes.{hands-bad, hands-good, hands-name}
 use Rattle.passed.proofs.Checked.{check-stop, check-then, checked, checked-room}
 use Rattle.layout.proofs.OneStep.{well-length}
-use Rattle.lists.specs.Tests.{first-hit, first-none, first-skip, is-false, is-true, is-yes, not-no, not_yes}
+use Rattle.lists.specs.Tests.{first-hit, first-none, first-skip, is-false, is-true, not-no, not_yes}
 use Rattle.meaning.specs.Open.{opened_at}
 use lib.Dec.{eqb}
 use lib.ListN.{length}
@@ -38,20 +38,20 @@ returns-then-n-ne-NO_PLACE c = open-refused _ _ _ _ _ _ (by_place _ _ _ c.requir
     (λ z. omega arith)
 
 -- src/lib.rt:228:9
-pub find-f-requires : goal.find-f-requires
-find-f-requires c = let if3 = c.if-n-ne-NO_PLACE in let incoming = c.incoming-n in let if1 = c.if-checked-ne0 in let p = c.requires in (
+pub find-requires : goal.find-requires
+find-requires c = let if3 = c.if-n-ne-NO_PLACE in let incoming = c.incoming-n in let if1 = c.if-checked-ne0 in let p = c.requires in (
   checked-room _ _ (checked _ _ p if1.false),
   (ap length (hands-name incoming.ensures if3.false) ∙ well-length _ (hands-good incoming.ensures if3.false)),
 )
 
 -- src/lib.rt:230:9
-pub returns-then-not-f : goal.returns-then-not-f
-returns-then-not-f c = let e = finds-none _ _ _ (finds-as _ _ _
+pub returns-in_default : goal.returns-in_default
+returns-in_default c = let e = finds-none _ _ _ (finds-as _ _ _
     (hands-name c.incoming-n.ensures
-    c.if-n-ne-NO_PLACE.false) c.find-f.ensures) c.if-not-f.true in
+    c.if-n-ne-NO_PLACE.false) c.find.ensures) c.in_default.is in
     open-refused _ _ _ _ _ _ (by_number _ _ _
     c.requires 4 (λ z. omega arith)
-    refl) c.refused-then-not-f.ensures
+    refl) c.refused-in_default.ensures
     (sym (check-then _ _ _ c.requires
     c.if-checked-ne0.false ∙ first-skip
     (not_yes (is-true c.good_length.ensures
@@ -63,14 +63,14 @@ returns-then-not-f c = let e = finds-none _ _ _ (finds-as _ _ _
 -- src/lib.rt:232:9
 pub admits-requires : goal.admits-requires
 admits-requires c = let if1 = c.if-checked-ne0 in let p = c.requires in
-    (checked-room _ _ (checked _ _ p if1.false), c.find-f.ensures.held (is-yes refl c.if-not-f.false))
+    (checked-room _ _ (checked _ _ p if1.false), finds-slot _ _ _ c.find.ensures c.in-Some.is)
 
 -- src/lib.rt:233:9
 pub returns-then-not-admits : goal.returns-then-not-admits
 returns-then-not-admits c = let e = finds-one _ _ _ (finds-as _ _ _
     (hands-name c.incoming-n.ensures
-    c.if-n-ne-NO_PLACE.false) c.find-f.ensures)
-    c.if-not-f.false in
+    c.if-n-ne-NO_PLACE.false) c.find.ensures)
+    c.in-Some.is in
     open-refused _ _ _ _ _ _ (by_number _ _ _
     c.requires 5
     (λ z. omega arith) refl) c.refused-then-not-admits.ensures
@@ -84,10 +84,10 @@ returns-then-not-admits c = let e = finds-one _ _ _ (finds-as _ _ _
 
 -- src/lib.rt:237:17
 pub opened_at-requires : goal.opened_at-requires
-opened_at-requires c = let if4 = c.if-not-f in let find = c.find-f in let if3 = c.if-n-ne-NO_PLACE in let incoming = c.incoming-n in
+opened_at-requires c = let find = c.find in let if3 = c.if-n-ne-NO_PLACE in let incoming = c.incoming-n in
     let if1 = c.if-checked-ne0 in let p = c.requires in (
       checked-room _ _ (checked _ _ p if1.false),
-      find.ensures.held (is-yes refl if4.false),
+      finds-slot _ _ _ find.ensures c.in-Some.is,
       (ap length (hands-name incoming.ensures if3.false) ∙ well-length _ (hands-good incoming.ensures if3.false)),
     )
 
@@ -96,12 +96,12 @@ pub returns : goal.returns
 returns c = let a = c.args in let e = finds-one _ _ _ (finds-as _ _ _
     (hands-name c.incoming-n.ensures
     c.if-n-ne-NO_PLACE.false)
-    c.find-f.ensures)
-    c.if-not-f.false in
+    c.find.ensures)
+    c.in-Some.is in
     open-accepted _ _ _ _ _ _ (by_number _ _ _
     c.requires 0 (λ z. omega arith) c.carried.ensures)
     (c.opened_at.ensures ∙ ap (λ (m : List ℕ). opened_at a.g a.image.now
-    c.find-f.result.slot m a.len a.checking a.code)
+    c.in-Some.slot m a.len a.checking a.code)
     (hands-name c.incoming-n.ensures
     c.if-n-ne-NO_PLACE.false))
     (sym (check-then _ _ _ c.requires
