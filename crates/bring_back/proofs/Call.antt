@@ -1,5 +1,5 @@
 -- The call: the refusals, and what is left.
-use mathlib.Core.Path.{◌≡◌, sym, ap, subst, ◌∙◌}
+use mathlib.Core.Path.{◌≡◌, refl, sym, ap, ◌∙◌}
 use mathlib.Core.List.{List, [], ◌∷◌}
 use mathlib.Core.Bool.{true, false, not}
 use Prim.Native.Nat.{ℕ}
@@ -23,10 +23,12 @@ use Rattle.passed.proofs.Checked.{check-stop, check-then}
 use Rattle.seek.proofs.Frame.{Same}
 use Rattle.look_up.specs.Found.{Finds}
 use Rattle.look_up.specs.declared.Found.{Found}
-use Rattle.look_up.proofs.Search.{finds-none, finds-one}
 use Rattle.back_taken.specs.Listed.{first_of, Listed}
 use Rattle.back_chain.specs.Line.{Written}
-use Rattle.bring_back.specs.Plan.{Plans}
+use Rattle.bring_back.specs.Plan.{Plans, Refuses}
+use Rattle.std.specs.Prelude.{Option, Some, None, is_some}
+use Rattle.std.specs.Option.{option_to_list}
+use Rattle.meaning.specs.LookUp.{named}
 use Rattle.bring_back.specs.declared.Planned.{Planned}
 use Rattle.back_chain.proofs.First.{first-length}
 use Rattle.back_write.proofs.Frame.{same_taken}
@@ -38,10 +40,8 @@ module _ (g : Geometry) (d : List ℕ) (s : ℕ) where
   abbrev number : ℕ
   number = first (BringBack.bring_back_refusals g d s)
 
-  pub refused-plan : {n : ℕ} {es : List ℕ} {r : Planned} → r ≡ record { number = n; slots = 0; granules = 0; hash = 0 } → n ≡ first
-      (BringBack.bring_back_refusals g d s) → (n ≡ 0 → ⊥) → Plans g d s es r
-  refused-plan e q z =
-      rw e (record { number_is = q; room = λ w. absurd (z w); written = λ w. absurd (z w); hash-is = λ w. absurd (z w); small = λ w. absurd (z w) })
+  pub refuses : {n : ℕ} → n ≡ first (BringBack.bring_back_refusals g d s) → (n ≡ 0 → ⊥) → Refuses g d s n
+  refuses q z = record { number_is = q; refused = z }
 
   pub at-check : {k : Refusal} → k ≡ check g d → (k.number ≡ 0 → ⊥) → k.number ≡ first (BringBack.bring_back_refusals g d s)
   at-check e z = check-stop g d _ e z
@@ -76,13 +76,12 @@ module _ (g : Geometry) (d : List ℕ) (s : ℕ) where
       at_none w k t = sym (so_far ∙ first-skip (not_yes w) 18 _ ∙ first-skip k 19 _ ∙ first-skip t 20 _ ∙ first-none)
 
   -- the name is looked up
-  pub name-used : {n : List ℕ} {f : Found} → n ≡ name_of g d s → Finds g d n f → f.is ≡ true → BringBack.name_in_use g d s ≡ true
-  name-used {n} {f} e w t =
-      ap (λ (l : List ℕ). not (eqb (length l) 0)) (finds-one g d (name_of g d s) (subst (λ (m : List ℕ). Finds g d m f) e w) (not_yes t))
-
-  pub name_free : {n : List ℕ} {f : Found} → n ≡ name_of g d s → Finds g d n f → f.is ≡ false → BringBack.name_in_use g d s ≡ false
-  name_free {n} {f} e w t =
-      ap (λ (l : List ℕ). not (eqb (length l) 0)) (finds-none g d (name_of g d s) (subst (λ (m : List ℕ). Finds g d m f) e w) (not-no t))
+  pub name_told : {n : List ℕ} {f : Found} → n ≡ name_of g d s → Finds g d n f → is_some f.slot ≡ BringBack.name_in_use g d s
+  name_told {n} {f} e w = by f.slot ∙ ap (λ (l : List ℕ). not (eqb (length l) 0)) (sym w.slot ∙ ap (named g d) e)
+    where
+      by : (o : Option ℕ) → is_some o ≡ not (eqb (length (option_to_list o)) 0)
+      by None = refl
+      by (Some x) = refl
 
   -- the granules are those of the entries written down
   pub taken_is : {es : List ℕ} {n size : ℕ} → Written g d (chain g d s) es n size → some (taken g d) (each (entry_granules g d) (first_of es n)) ≡ some
@@ -92,10 +91,10 @@ module _ (g : Geometry) (d : List ℕ) (s : ℕ) where
 
   -- Answer and image ---------------------------------------------------------------------------------------------------------
 
-  pub refused : {n : ℕ} {c : Refusal} → c ≡ refusal g d n → n ≡ first (BringBack.bring_back_refusals g d s) → (n ≡ 0 → ⊥)
+  pub refused : {n : ℕ} {c : Refusal} → c ≡ refusal g d n → Refuses g d s n
       → ◌≡◌ {A = BroughtBack × List ℕ} (record { refusal = c; slots = 0; granules = 0 }, d) (bring_back g d s)
   unfolding bring_back
-  refused {n} q e z = rw (← e, ne_eqb n 0 z, q)
+  refused {n} q k = rw (← k.number_is, ne_eqb n 0 k.refused, q)
 
   pub listed_then : {es d' : List ℕ} {n size : ℕ} → Room g d → Written g d (chain g d s) es n size → Same g d d' → Listed g d' es n
   listed_then r w e = record { few = w.listed.few; entry = λ j l. same-on-disk g r e (w.listed.entry j l) }
@@ -122,13 +121,11 @@ module _ (g : Geometry) (d : List ℕ) (s : ℕ) where
   unfolding owned
   own-are w = w.granules-are
 
-  pub accepted : {es d' d'' : List ℕ} {p : Planned} {c : Refusal} → c ≡ refusal g d 0 → Plans g d s es p → p.number ≡ 0 → d' ≡ through (take_granule g) d
+  pub accepted : {es d' d'' : List ℕ} {p : Planned} {c : Refusal} → c ≡ refusal g d 0 → Plans g d s es p → d' ≡ through (take_granule g) d
       (each (entry_granules g d) (first_of es p.slots))
       → d'' ≡ through (back_entry g p.hash) d' (first_of es p.slots)
       → ◌≡◌ {A = BroughtBack × List ℕ} (record { refusal = c; slots = p.slots; granules = p.granules }, d'') (bring_back g d s)
   unfolding bring_back
-  accepted {es} {d'} {d''} {p} y k z e f =
-      let w = k.written z in
-      let q : 0 ≡ first (BringBack.bring_back_refusals g d s) = sym z ∙ k.number_is in
-      let a = slots-are w in let b = own-are w in
-      rw (← q, ← a, ← b, back_is w (k.hash-is z) e f, y)
+  accepted {es} {d'} {d''} {p} y k e f =
+      let w = k.written in let a = slots-are w in let b = own-are w in
+      rw (← k.number_is, ← a, ← b, back_is w k.hash-is e f, y)

@@ -1,5 +1,5 @@
 -- What the tests of the call give.
-use Rattle.std.specs.Prelude.{◌≡◌, List, ℕ, ◌<◌}
+use Rattle.std.specs.Prelude.{◌≡◌, ◌≢◌, List, ℕ, ◌<◌}
 use Rattle.meaning.specs.Names.{hash}
 use Rattle.meaning.specs.Entries.{name_of}
 use Rattle.meaning.specs.Chain.{chain}
@@ -10,10 +10,15 @@ use Rattle.layout.specs.Room.{Room}
 use Rattle.bring_back.specs.declared.Planned.{Planned}
 use Rattle.back_chain.specs.Line.{Written}
 
--- The number of the call, and where it is accepted all that it writes.
+-- The call is accepted: all that it writes.
 pub record Plans (g : Geometry) (d : List ℕ) (s : ℕ) (es : List ℕ) (r : Planned) : Type 0 where
-  pub number_is : r.number ≡ first (BringBack.bring_back_refusals g d s)
-  pub room : r.number ≡ 0 → Room g d
-  pub written : r.number ≡ 0 → Written g d (chain g d s) es r.slots r.granules
-  pub hash-is : r.number ≡ 0 → r.hash ≡ hash (name_of g d s)
-  pub small : r.number ≡ 0 → r.hash < 256
+  pub number_is : 0 ≡ first (BringBack.bring_back_refusals g d s)
+  pub room : Room g d
+  pub written : Written g d (chain g d s) es r.slots r.granules
+  pub hash-is : r.hash ≡ hash (name_of g d s)
+  pub small : r.hash < 256
+
+-- The call is refused under this number.
+pub record Refuses (g : Geometry) (d : List ℕ) (s n : ℕ) : Type 0 where
+  pub number_is : n ≡ first (BringBack.bring_back_refusals g d s)
+  pub refused : n ≢ 0

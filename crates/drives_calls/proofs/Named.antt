@@ -6,9 +6,9 @@ use Prim.Native.Nat.{ℕ, suc, ◌≤◌}
 use native.Mathlib.Omega.{arith}
 use native.Mathlib.Decide.{ℕ_discrete}
 use lib.Dec.{eqb}
-use lib.ListN.{length}
+use lib.ListN.{length, take}
 use borrow.Author.Tests.{eq-eqb, ne_eqb}
-use Rattle.meaning.specs.Lists.{count, has, all, first_or}
+use Rattle.meaning.specs.Lists.{count, has, all}
 use Rattle.lists.specs.Members.{length-count}
 use Rattle.lists.specs.Counting.{keep-under}
 use Rattle.meaning.specs.Layout.{slots, is_slot, hit}
@@ -163,12 +163,12 @@ module _ (p : Pair) (n : List ℕ) where
           ap (λ (t : Bool). cond t (cond (eqb (length (free_slots p.geometry0 p.image0)) 0) 1 0) (searched p n))
           (all_yes (lacks-it 0 e₀ z₀) (lacks p 1 n ∷ []) ∙ all_yes (lacks-it 1 e₁ z) [] ∙ all_none)
 
-      module _ (z₁ : l₁.refusal.number ≡ 4) {x : ℕ} (e : x ≡ first_or 256 (free_slots p.geometry0 p.image0)) where
-        pub takes-full : x ≡ 256 → 1 ≡ takes p n
-        takes-full w = ap (λ (t : Bool). cond t 1 0) (sym (slot-none p.geometry0 p.image0 e w)) ∙ sym (takes-new z₁)
+      module _ (z₁ : l₁.refusal.number ≡ 4) where
+        pub takes-full : [] ≡ take 1 (free_slots p.geometry0 p.image0) → 1 ≡ takes p n
+        takes-full e = ap (λ (t : Bool). cond t 1 0) (sym (slot-none p.geometry0 p.image0 e)) ∙ sym (takes-new z₁)
 
-        pub takes-free : (x ≡ 256 → ⊥) → 0 ≡ takes p n
-        takes-free w = ap (λ (t : Bool). cond t 1 0) (sym (slot-some p.geometry0 p.image0 e w).1) ∙ sym (takes-new z₁)
+        pub takes-free : {x : ℕ} → x ∷ [] ≡ take 1 (free_slots p.geometry0 p.image0) → 0 ≡ takes p n
+        takes-free e = ap (λ (t : Bool). cond t 1 0) (sym (slot-some p.geometry0 p.image0 e).1) ∙ sym (takes-new z₁)
 
   pub takes-1 : (takes p n ≡ 0 → ⊥) → takes p n ≡ 1
   unfolding takes searched

@@ -118,10 +118,10 @@ fn takes(
     if second.refusal.number != 4 {
         return 1;
     }
-    if space::first_free_slot(image0, g0) == 256 {
-        return 1;
+    match space::first_free_slot(image0, g0) {
+        Some(_) => 0,
+        None => 1,
     }
-    0
 }
 
 // Create: an existing file is opened, else an empty one is made.

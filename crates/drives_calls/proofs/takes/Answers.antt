@@ -14,20 +14,12 @@ returns-then-second-ne4 c =
 pub first_free_slot-requires : goal.first_free_slot-requires
 first_free_slot-requires c = let the-pre = c.requires in room _ _ the-pre.0 the-pre.1
 
-pub returns-then-first_free_slot-eq256 : goal.returns-then-first_free_slot-eq256
-returns-then-first_free_slot-eq256 c =
-    let the-look-up-checked = c.look_up_checked-first in
-    let the-if1 = c.if-first-ne4 in
-    let the-look-up-checked2 = c.look_up_checked-second in
-    let the-if2 = c.if-second-ne4 in
-    takes-full _ _ the-look-up-checked.ensures the-look-up-checked2.ensures the-if1.false the-if2.false
-    c.first_free_slot.ensures c.if-first_free_slot-eq256.true
+pub returns-in-None : goal.returns-in-None
+returns-in-None c =
+    takes-full _ _ c.look_up_checked-first.ensures c.look_up_checked-second.ensures c.if-first-ne4.false c.if-second-ne4.false
+    c.in-None.ensures
 
-pub returns : goal.returns
-returns c =
-    let the-look-up-checked = c.look_up_checked-first in
-    let the-if1 = c.if-first-ne4 in
-    let the-look-up-checked2 = c.look_up_checked-second in
-    let the-if2 = c.if-second-ne4 in
-    takes-free _ _ the-look-up-checked.ensures the-look-up-checked2.ensures the-if1.false the-if2.false
-    c.first_free_slot.ensures c.if-first_free_slot-eq256.false
+pub returns-in-Some : goal.returns-in-Some
+returns-in-Some c =
+    takes-free _ _ c.look_up_checked-first.ensures c.look_up_checked-second.ensures c.if-first-ne4.false c.if-second-ne4.false
+    c.in-Some.ensures
