@@ -6,7 +6,8 @@ use mathlib.Core.Logic.{◌⊎◌, inl, inr}
 use Prim.Native.Nat.{ℕ, zero, suc, ◌+◌, ◌≤◌, ◌<◌}
 use native.Mathlib.Omega.{arith}
 use native.Mathlib.Numerals.{add-one}
-use lib.ListN.{get_or}
+use lib.ListN.{get_or, length, take}
+use lib.Seq.{take-suc, take-length}
 use Rattle.meaning.specs.Lists.{count, each, some}
 use Rattle.lists.specs.Tests.{le-or-lt}
 use Rattle.lists.specs.Ranges.{each_snoc}
@@ -25,6 +26,17 @@ entry-steps f = record { none = refl; more = each_snoc f }
 pub first-steps : (es : List ℕ) → Steps (first_of es) (λ k. get_or es k 0 ∷ [])
 unfolding first_of
 first-steps es = record { none = refl; more = λ k. ap (first_of es) (add-one k) }
+
+-- the first of a list are what `take` takes; all of it, the list
+pub first-take : (es : List ℕ) (n : ℕ) → n ≤ length es → first_of es n ≡ take n es
+unfolding first_of
+first-take es zero h = refl
+first-take es (suc n) h =
+    let l : n < length es = omega arith in
+    ap (λ (xs : List ℕ). xs ++ (get_or es n 0 ∷ [])) (first-take es n (omega arith)) ∙ sym (take-suc es n 0 l)
+
+pub first-all : (es : List ℕ) → first_of es (length es) ≡ es
+first-all es = first-take es (length es) (omega arith) ∙ take-length es
 
 pub all-steps : (f : ℕ → List ℕ) (es : List ℕ) → Steps (λ k. each f (first_of es k)) (λ k. f (get_or es k 0))
 all-steps f es =

@@ -1,12 +1,12 @@
 // Whether granules are taken: those of an entry, of entries written down in a list.
 #![tactic(auto)]
 
-ghost use Rattle.std.specs.Prelude.{◌≡◌};
+ghost use Rattle.std.specs.Prelude.{◌≡◌, length};
 ghost use Rattle.meaning.specs.Lists.{each, some};
 ghost use Rattle.meaning.specs.Layout.{taken};
 ghost use Rattle.meaning.specs.Entries.{entry_granules};
 ghost use Rattle.layout.specs.Room.{Room};
-ghost use Rattle.back_taken.specs.Listed.{RunsOnDisk, first_of, Listed};
+ghost use Rattle.back_taken.specs.Listed.{RunsOnDisk, Listed};
 
 use meaning::Geometry;
 
@@ -15,8 +15,7 @@ fn entry_taken(image: &[u8], g: Geometry, s: usize) -> bool
     requires { Room g image.now × RunsOnDisk g image.now s }
     ensures { result ≡ some (taken g image.now) (entry_granules g image.now s) }
 {
-    let mut j = 0;
-    while j < layout::PAIRS {
+    for j in 0..layout::PAIRS {
         if layout::field(image, g, s, layout::BLOCKS + 2 * j) == layout::ENDS {
             return false;
         }
@@ -25,22 +24,19 @@ fn entry_taken(image: &[u8], g: Geometry, s: usize) -> bool
         if space::run_taken(image, g, a, len) {
             return true;
         }
-        j += 1;
     }
     false
 }
 
-// Whether one of the granules of the first n of these entries is taken.
-pub fn any_taken(image: &[u8], g: Geometry, entries: &[usize; 256], n: usize) -> bool
-    requires { Room g image.now × Listed g image.now entries.now n }
-    ensures { result ≡ some (taken g image.now) (each (entry_granules g image.now) (first_of entries.now n)) }
+// Whether one of the granules of these entries is taken.
+pub fn any_taken(image: &[u8], g: Geometry, entries: &[usize]) -> bool
+    requires { Room g image.now × Listed g image.now entries.now (length entries.now) }
+    ensures { result ≡ some (taken g image.now) (each (entry_granules g image.now) entries.now) }
 {
-    let mut j = 0;
-    while j < n {
-        if entry_taken(image, g, entries[j]) {
+    for &s in entries {
+        if entry_taken(image, g, s) {
             return true;
         }
-        j += 1;
     }
     false
 }

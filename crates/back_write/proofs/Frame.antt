@@ -16,7 +16,6 @@ use Rattle.layout.proofs.OneStep.{gat-low}
 use Rattle.seek.proofs.Frame.{Same, opened, same_refl, same-trans, same-before, same-room, same_start, same_len, same-entry}
 use Rattle.space.proofs.Folds.{KeptFields, kept-room, kept_slot}
 use Rattle.laws.specs.Entry.{runs-le}
-use Rattle.lists.specs.Members
 use Rattle.lists.specs.Members.{In}
 use Rattle.back_taken.specs.Listed.{RunsOnDisk, Listed, first_of}
 use Rattle.back_taken.proofs.Steps.{Steps, entry-steps, first-steps, all-steps}

@@ -1,13 +1,13 @@
 // What bring back writes: the granules of the entries written down are taken, and the entries set in use again.
 #![tactic(auto)]
 
-ghost use Rattle.std.specs.Prelude.{◌≡◌, ◌<◌};
+ghost use Rattle.std.specs.Prelude.{◌≡◌, ◌<◌, length};
 ghost use Rattle.meaning.specs.Lists.{each, through};
 ghost use Rattle.meaning.specs.Layout.{take_granule};
 ghost use Rattle.meaning.specs.Entries.{entry_granules};
 ghost use Rattle.meaning.specs.BringBack.{back_entry};
 ghost use Rattle.layout.specs.Room.{Room, Slot};
-ghost use Rattle.back_taken.specs.Listed.{RunsOnDisk, first_of, Listed};
+ghost use Rattle.back_taken.specs.Listed.{RunsOnDisk, Listed};
 
 use meaning::Geometry;
 
@@ -17,25 +17,21 @@ fn take_entry(image: &mut [u8], g: Geometry, s: usize)
     ensures { image.new ≡ through (take_granule g) image.old (entry_granules g image.old s) }
 {
     let n = layout::runs(image, g, s);
-    let mut j = 0;
-    while j < n {
+    for j in 0..n {
         let a = layout::run_start(image, g, s, j);
         let len = layout::run_length(image, g, s, j);
         space::take_run(image, g, a, len);
-        j += 1;
     }
 }
 
-// Takes the granules of the first n of these entries.
-pub fn take_all(image: &mut [u8], g: Geometry, entries: &[usize; 256], n: usize)
-    requires { Room g image.old × Listed g image.old entries.now n }
+// Takes the granules of these entries.
+pub fn take_all(image: &mut [u8], g: Geometry, entries: &[usize])
+    requires { Room g image.old × Listed g image.old entries.now (length entries.now) }
     ensures { image.new ≡ through (take_granule g) image.old
-        (each (entry_granules g image.old) (first_of entries.now n)) }
+        (each (entry_granules g image.old) entries.now) }
 {
-    let mut j = 0;
-    while j < n {
-        take_entry(image, g, entries[j]);
-        j += 1;
+    for &s in entries {
+        take_entry(image, g, s);
     }
 }
 
@@ -49,14 +45,12 @@ fn back_entry(image: &mut [u8], g: Geometry, s: usize, h: usize)
     layout::set_hit(image, g, s, h);
 }
 
-// Brings the first n of these entries back.
-pub fn back_all(image: &mut [u8], g: Geometry, entries: &[usize; 256], n: usize, h: usize)
-    requires { Room g image.old × Listed g image.old entries.now n × (h < 256) }
-    ensures { image.new ≡ through (back_entry g h) image.old (first_of entries.now n) }
+// Brings these entries back.
+pub fn back_all(image: &mut [u8], g: Geometry, entries: &[usize], h: usize)
+    requires { Room g image.old × Listed g image.old entries.now (length entries.now) × (h < 256) }
+    ensures { image.new ≡ through (back_entry g h) image.old entries.now }
 {
-    let mut back = 0;
-    while back < n {
-        back_entry(image, g, entries[back], h);
-        back += 1;
+    for &back in entries {
+        back_entry(image, g, back, h);
     }
 }

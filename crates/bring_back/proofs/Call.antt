@@ -1,9 +1,11 @@
 -- The call: the refusals, and what is left.
-use mathlib.Core.Path.{◌≡◌, refl, sym, ap, ◌∙◌}
+use mathlib.Core.Path.{◌≡◌, refl, sym, ap, subst, ◌∙◌}
 use mathlib.Core.List.{List, [], ◌∷◌}
 use mathlib.Core.Bool.{true, false, not}
-use Prim.Native.Nat.{ℕ}
-use lib.ListN.{length}
+use Prim.Native.Nat.{ℕ, ◌≤◌, ◌<◌}
+use native.Mathlib.Omega.{arith}
+use lib.ListN.{length, take}
+use Rattle.std.proofs.lemmas.List.{length-take-le, get_or-take}
 use lib.Dec.{eqb}
 use borrow.Author.Tests.{ne_eqb}
 use Rattle.meaning.specs.Lists.{each, some, through}
@@ -23,7 +25,8 @@ use Rattle.passed.proofs.Checked.{check-stop, check-then}
 use Rattle.seek.proofs.Frame.{Same}
 use Rattle.look_up.specs.Found.{Finds}
 use Rattle.look_up.specs.declared.Found.{Found}
-use Rattle.back_taken.specs.Listed.{first_of, Listed}
+use Rattle.back_taken.specs.Listed.{RunsOnDisk, first_of, Listed}
+use Rattle.back_taken.proofs.Steps.{first-take}
 use Rattle.back_chain.specs.Line.{Written}
 use Rattle.bring_back.specs.Plan.{Plans, Refuses}
 use Rattle.std.specs.Prelude.{Option, Some, None, is_some}
@@ -33,6 +36,15 @@ use Rattle.bring_back.specs.declared.Planned.{Planned}
 use Rattle.back_chain.proofs.First.{first-length}
 use Rattle.back_write.proofs.Frame.{same_taken}
 use Rattle.back_taken.proofs.OnDisk.{same-on-disk, under-each, listed_in}
+
+-- the first n of the entries written down, as a slice
+pub slice-listed : {g : Geometry} {es d' : List ℕ} {n : ℕ} → Listed g d' es n → n ≤ length es → Listed g d' (take n es) (length (take n es))
+slice-listed {g} {es} {d'} {n} w h =
+    let e = length-take-le n es h in
+    record {
+      few = rw e w.few;
+      entry = λ j l. let k : j < n = omega (arith, e) in subst (λ (x : ℕ). RunsOnDisk g d' x) (sym (get_or-take n es j 0 k)) (w.entry j k);
+    }
 
 module _ (g : Geometry) (d : List ℕ) (s : ℕ) where
   -- The refusals -------------------------------------------------------------------------------------------------------------
@@ -83,11 +95,17 @@ module _ (g : Geometry) (d : List ℕ) (s : ℕ) where
       by None = refl
       by (Some x) = refl
 
-  -- the granules are those of the entries written down
-  pub taken_is : {es : List ℕ} {n size : ℕ} → Written g d (chain g d s) es n size → some (taken g d) (each (entry_granules g d) (first_of es n)) ≡ some
+  pub written-fits : {es : List ℕ} {n size : ℕ} → Written g d (chain g d s) es n size → length es ≡ 256 → n ≤ length es
+  written-fits w e = let h = w.listed.few in omega arith
+
+  -- the slice of the entries written down: it is the chain
+  pub slice-is : {es : List ℕ} {n size : ℕ} → Written g d (chain g d s) es n size → n ≤ length es → take n es ≡ chain g d s
+  slice-is {es} {n} w h = sym (first-take es n h) ∙ sym w.entries-are
+
+  pub taken_is : {es : List ℕ} {n size : ℕ} → Written g d (chain g d s) es n size → n ≤ length es → some (taken g d) (each (entry_granules g d) (take n es)) ≡ some
       (taken g d) (owned g d s)
   unfolding owned
-  taken_is w = ap (λ (l : List ℕ). some (taken g d) (each (entry_granules g d) l)) (sym w.entries-are)
+  taken_is w h = ap (λ (l : List ℕ). some (taken g d) (each (entry_granules g d) l)) (slice-is w h)
 
   -- Answer and image ---------------------------------------------------------------------------------------------------------
 
@@ -99,20 +117,20 @@ module _ (g : Geometry) (d : List ℕ) (s : ℕ) where
   pub listed_then : {es d' : List ℕ} {n size : ℕ} → Room g d → Written g d (chain g d s) es n size → Same g d d' → Listed g d' es n
   listed_then r w e = record { few = w.listed.few; entry = λ j l. same-on-disk g r e (w.listed.entry j l) }
 
-  pub taken-same : {es d' : List ℕ} {n size : ℕ} → Room g d → Written g d (chain g d s) es n size → d' ≡ through (take_granule g) d
-      (each (entry_granules g d) (first_of es n)) → Same g d d'
-  taken-same {es} {d'} {n} {size} r w e =
-      rw e (same_taken g d (each (entry_granules g d) (first_of es n)) r (under-each g d (first_of es n) (listed_in g d es n w.listed.entry)))
+  pub taken-same : {es d' : List ℕ} {n size : ℕ} → Room g d → Written g d (chain g d s) es n size → n ≤ length es → d' ≡ through (take_granule g) d
+      (each (entry_granules g d) (take n es)) → Same g d d'
+  taken-same {es} {d'} {n} {size} r w h e =
+      rw (e, ← first-take es n h) (same_taken g d (each (entry_granules g d) (first_of es n)) r (under-each g d (first_of es n) (listed_in g d es n w.listed.entry)))
 
   -- the image with the file brought back, by the entries written down
-  back_is : {es d' d'' : List ℕ} {n size h : ℕ} → Written g d (chain g d s) es n size → h ≡ hash (name_of g d s) → d' ≡ through (take_granule g) d
-      (each (entry_granules g d) (first_of es n))
-      → d'' ≡ through (back_entry g h) d' (first_of es n) → d'' ≡ BringBack.brought_back g d s
+  back_is : {es d' d'' : List ℕ} {n size h : ℕ} → Written g d (chain g d s) es n size → n ≤ length es → h ≡ hash (name_of g d s) → d' ≡ through (take_granule g) d
+      (each (entry_granules g d) (take n es))
+      → d'' ≡ through (back_entry g h) d' (take n es) → d'' ≡ BringBack.brought_back g d s
   unfolding owned
-  back_is {es} {d'} {d''} {n} {size} {h} w q e f =
-      f ∙ ap (λ (l : List ℕ). through (back_entry g h) l (first_of es n)) e
-      ∙ ap (λ (k : ℕ). through (back_entry g k) (through (take_granule g) d (each (entry_granules g d) (first_of es n))) (first_of es n)) q
-      ∙ ap (λ (l : List ℕ). through (back_entry g (hash (name_of g d s))) (through (take_granule g) d (each (entry_granules g d) l)) l) (sym w.entries-are)
+  back_is {es} {d'} {d''} {n} {size} {h} w b q e f =
+      f ∙ ap (λ (l : List ℕ). through (back_entry g h) l (take n es)) e
+      ∙ ap (λ (k : ℕ). through (back_entry g k) (through (take_granule g) d (each (entry_granules g d) (take n es))) (take n es)) q
+      ∙ ap (λ (l : List ℕ). through (back_entry g (hash (name_of g d s))) (through (take_granule g) d (each (entry_granules g d) l)) l) (slice-is w b)
 
   slots-are : {es : List ℕ} {n size : ℕ} → Written g d (chain g d s) es n size → n ≡ length (chain g d s)
   slots-are {es} {n} w = sym (first-length es n) ∙ ap {B = ℕ} length (sym w.entries-are)
@@ -121,11 +139,11 @@ module _ (g : Geometry) (d : List ℕ) (s : ℕ) where
   unfolding owned
   own-are w = w.granules-are
 
-  pub accepted : {es d' d'' : List ℕ} {p : Planned} {c : Refusal} → c ≡ refusal g d 0 → Plans g d s es p → d' ≡ through (take_granule g) d
-      (each (entry_granules g d) (first_of es p.slots))
-      → d'' ≡ through (back_entry g p.hash) d' (first_of es p.slots)
+  pub accepted : {es d' d'' : List ℕ} {p : Planned} {c : Refusal} → c ≡ refusal g d 0 → Plans g d s es p → p.slots ≤ length es → d' ≡ through (take_granule g) d
+      (each (entry_granules g d) (take p.slots es))
+      → d'' ≡ through (back_entry g p.hash) d' (take p.slots es)
       → ◌≡◌ {A = BroughtBack × List ℕ} (record { refusal = c; slots = p.slots; granules = p.granules }, d'') (bring_back g d s)
   unfolding bring_back
-  accepted {es} {d'} {d''} {p} y k e f =
+  accepted {es} {d'} {d''} {p} y k h e f =
       let w = k.written in let a = slots-are w in let b = own-are w in
-      rw (← k.number_is, ← a, ← b, back_is w k.hash-is e f, y)
+      rw (← k.number_is, ← a, ← b, back_is w h k.hash-is e f, y)

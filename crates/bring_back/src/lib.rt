@@ -49,7 +49,7 @@ fn plan(
     if look_up::find(image, g, &name).slot.is_some() {
         return Err(19);
     }
-    if back_taken::any_taken(image, g, entries, l.slots) {
+    if back_taken::any_taken(image, g, &entries[..l.slots]) {
         return Err(20);
     }
     Ok(Planned {
@@ -75,8 +75,9 @@ pub fn bring_back_checked(image: &mut [u8], g: Geometry, s: usize, checked: Refu
             };
         }
     };
-    back_write::take_all(image, g, &entries, p.slots);
-    back_write::back_all(image, g, &entries, p.slots, p.hash);
+    let entries = &entries[..p.slots];
+    back_write::take_all(image, g, entries);
+    back_write::back_all(image, g, entries, p.hash);
     BroughtBack {
         refusal: refusal::carried(checked, 0),
         slots: p.slots,

@@ -4,7 +4,6 @@ use Rattle.back_write.proofs.Frame.{taking-start, taking-run}
 use Rattle.back_taken.proofs.OnDisk.{run_fits, runs-are}
 use Rattle.seek.proofs.Frame.{same-room, same-slot}
 use Rattle.meaning.specs.Lists.{through}
-use Prim.Native.Nat.{◌-◌}
 use native.Mathlib.Omega.{arith}
 use mathlib.Core.Path.{ap, ◌∙◌}
 use Rattle.back_write.proofs.take_entry.Goals as goal
@@ -39,12 +38,6 @@ take_run-requires c = let run-start = c.run_start-a in let loop-test = c.loop-j-
   run_fits _ p.0 p.1 runs.ensures.is l.invariant.same loop-test.true run-start.ensures.is
       c.run_length-len.ensures.is,
 )
-
-pub overflow_add-j : goal.overflow_add-j
-overflow_add-j c = let q = c.runs-n.ensures.small in omega arith
-
-pub loop-j-smaller : goal.loop-j-smaller
-loop-j-smaller c = omega arith
 
 pub loop-j-preserved : goal.loop-j-preserved
 loop-j-preserved c = let run_length = c.run_length-len in let run-start = c.run_start-a in let loop-test = c.loop-j-test in let l = c.loop-j in

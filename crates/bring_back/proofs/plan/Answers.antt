@@ -7,7 +7,7 @@ use Rattle.lists.specs.Tests.{is-false, is-true, is-no, is-yes}
 use Rattle.layout.proofs.HasRoom.{slot-of}
 use Rattle.passed.proofs.Checked.{checked, checked-room}
 use Rattle.bring_back.proofs.Call.{refuses, at-check, at_slot, at-use, at-system, at-whole}
-use Rattle.bring_back.proofs.Call.{at_name, at-taken, at_none, name_told, taken_is}
+use Rattle.bring_back.proofs.Call.{at_name, at-taken, at_none, name_told, taken_is, slice-listed, written-fits}
 use Rattle.bring_back.proofs.plan.Goals as goal
 
 pub returns-then-checked-ne0 : goal.returns-then-checked-ne0
@@ -71,20 +71,18 @@ returns-then-is_some c = refuses _ _ _ (at_name _ _ _ c.requires.0 c.if-checked-
     arith)
 
 pub any_taken-requires : goal.any_taken-requires
-any_taken-requires c = (checked-room _ _ (checked _ _ c.requires.0 c.if-checked-ne0.false), (c.whole-l.ensures.written (not-false _ c.if-not-l.false)).listed)
+any_taken-requires c = (checked-room _ _ (checked _ _ c.requires.0 c.if-checked-ne0.false), slice-listed (c.whole-l.ensures.written (not-false _ c.if-not-l.false)).listed (written-fits _ _ _ (c.whole-l.ensures.written (not-false _ c.if-not-l.false)) c.whole-l.array_long))
 
 pub returns-then-any_taken : goal.returns-then-any_taken
 returns-then-any_taken c = refuses _ _ _ (at-taken _ _ _ c.requires.0 c.if-checked-ne0.false (is-true c.is_slot.ensures c.if-not-is_slot.false) (sym
     c.flag.ensures ∙ c.if-flag.false) (sym c.flag-2.ensures ∙ c.if-flag-2.false) (is-yes c.whole-l.ensures.answer c.if-not-l.false)
-    (sym (name_told _ _ _ c.name_of-name.ensures c.find.ensures) ∙ sym c.is_some.ensures ∙ c.if-is_some.false) (sym (taken_is _ _ _
-    (c.whole-l.ensures.written (not-false _ c.if-not-l.false))) ∙ sym c.any_taken.ensures ∙ c.if-any_taken.true)) (λ z. omega arith)
+    (sym (name_told _ _ _ c.name_of-name.ensures c.find.ensures) ∙ sym c.is_some.ensures ∙ c.if-is_some.false) (sym (taken_is _ _ _ (c.whole-l.ensures.written (not-false _ c.if-not-l.false)) (written-fits _ _ _ (c.whole-l.ensures.written (not-false _ c.if-not-l.false)) c.whole-l.array_long)) ∙ sym c.any_taken.ensures ∙ c.if-any_taken.true)) (λ z. omega arith)
 
 pub returns : goal.returns
 returns c = record {
   number_is = at_none _ _ _ c.requires.0 c.if-checked-ne0.false (is-true c.is_slot.ensures c.if-not-is_slot.false) (sym c.flag.ensures ∙
       c.if-flag.false) (sym c.flag-2.ensures ∙ c.if-flag-2.false) (is-yes c.whole-l.ensures.answer c.if-not-l.false)
-      (sym (name_told _ _ _ c.name_of-name.ensures c.find.ensures) ∙ sym c.is_some.ensures ∙ c.if-is_some.false) (sym (taken_is _ _ _ (c.whole-l.ensures.written
-      (not-false _ c.if-not-l.false))) ∙ sym c.any_taken.ensures ∙ c.if-any_taken.false);
+      (sym (name_told _ _ _ c.name_of-name.ensures c.find.ensures) ∙ sym c.is_some.ensures ∙ c.if-is_some.false) (sym (taken_is _ _ _ (c.whole-l.ensures.written (not-false _ c.if-not-l.false)) (written-fits _ _ _ (c.whole-l.ensures.written (not-false _ c.if-not-l.false)) c.whole-l.array_long)) ∙ sym c.any_taken.ensures ∙ c.if-any_taken.false);
   room = checked-room _ _ (checked _ _ c.requires.0 c.if-checked-ne0.false);
   written = c.whole-l.ensures.written (not-false _ c.if-not-l.false);
   hash-is = c.hash.ensures.is ∙ ap hash c.name_of-name.ensures;
