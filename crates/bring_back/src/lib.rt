@@ -41,10 +41,9 @@ fn plan(
     if layout::flag(image, g, s, layout::SYSTEM) {
         return Err(6);
     }
-    let l = back_chain::whole(image, g, s, entries);
-    if !l.ok {
+    let Some(l) = back_chain::whole(image, g, s, entries) else {
         return Err(18);
-    }
+    };
     let name = entry::name_of(image, g, s);
     if look_up::find(image, g, &name).slot.is_some() {
         return Err(19);

@@ -194,15 +194,18 @@ pub fn first_free_slot(image: &[u8], g: Geometry) -> Option<usize>
     ensures { option_to_list result ≡ take 1 (free_slots g image.now) }
 {
     let n = layout::columns(image, g);
-    for row in 0..8 {
+    let mut found = None;
+    // left by a label: the form that 01 names for this place
+    'rows: for row in 0..8 {
         for s in kept_columns(g, row)..n {
             let slot = 32 * row + s;
             if layout::hit(image, g, slot) == 0 {
-                return Some(slot);
+                found = Some(slot);
+                break 'rows;
             }
         }
     }
-    None
+    found
 }
 
 // How many of the lowest bits of a GAT byte are clear.

@@ -43,16 +43,16 @@ pub returns-then-flag-2 : goal.returns-then-flag-2
 returns-then-flag-2 c = refuses _ _ _ (at-system _ _ _ c.requires.0 c.if-checked-ne0.false (is-true c.is_slot.ensures c.if-not-is_slot.false) (sym c.flag.ensures ∙ c.if-flag.false)
     (sym c.flag-2.ensures ∙ c.if-flag-2.true)) (λ z. omega arith)
 
-pub whole-l-requires : goal.whole-l-requires
-whole-l-requires c = (
+pub whole-requires : goal.whole-requires
+whole-requires c = (
   checked-room _ _ (checked _ _ c.requires.0 c.if-checked-ne0.false),
   slot-of _ _ _ (is-true c.is_slot.ensures c.if-not-is_slot.false),
   c.requires.1,
 )
 
-pub returns-then-not-l : goal.returns-then-not-l
-returns-then-not-l c = refuses _ _ _ (at-whole _ _ _ c.requires.0 c.if-checked-ne0.false (is-true c.is_slot.ensures c.if-not-is_slot.false) (sym c.flag.ensures ∙ c.if-flag.false)
-    (sym c.flag-2.ensures ∙ c.if-flag-2.false) (is-no c.whole-l.ensures.answer c.if-not-l.true)) (λ z.
+pub returns-in_default : goal.returns-in_default
+returns-in_default c = refuses _ _ _ (at-whole _ _ _ c.requires.0 c.if-checked-ne0.false (is-true c.is_slot.ensures c.if-not-is_slot.false) (sym c.flag.ensures ∙ c.if-flag.false)
+    (sym c.flag-2.ensures ∙ c.if-flag-2.false) (sym c.in_default.ensures.answer)) (λ z.
     omega arith)
 
 pub name_of-name-requires : goal.name_of-name-requires
@@ -66,25 +66,25 @@ find-requires c = (
 
 pub returns-then-is_some : goal.returns-then-is_some
 returns-then-is_some c = refuses _ _ _ (at_name _ _ _ c.requires.0 c.if-checked-ne0.false (is-true c.is_slot.ensures c.if-not-is_slot.false) (sym
-    c.flag.ensures ∙ c.if-flag.false) (sym c.flag-2.ensures ∙ c.if-flag-2.false) (is-yes c.whole-l.ensures.answer c.if-not-l.false)
+    c.flag.ensures ∙ c.if-flag.false) (sym c.flag-2.ensures ∙ c.if-flag-2.false) (sym c.in-Some.ensures.answer)
     (sym (name_told _ _ _ c.name_of-name.ensures c.find.ensures) ∙ sym c.is_some.ensures ∙ c.if-is_some.true)) (λ z. omega
     arith)
 
 pub any_taken-requires : goal.any_taken-requires
-any_taken-requires c = (checked-room _ _ (checked _ _ c.requires.0 c.if-checked-ne0.false), slice-listed (c.whole-l.ensures.written (not-false _ c.if-not-l.false)).listed (written-fits _ _ _ (c.whole-l.ensures.written (not-false _ c.if-not-l.false)) c.whole-l.array_long))
+any_taken-requires c = (checked-room _ _ (checked _ _ c.requires.0 c.if-checked-ne0.false), slice-listed c.in-Some.ensures.written.listed (written-fits _ _ _ c.in-Some.ensures.written c.whole.array_long))
 
 pub returns-then-any_taken : goal.returns-then-any_taken
 returns-then-any_taken c = refuses _ _ _ (at-taken _ _ _ c.requires.0 c.if-checked-ne0.false (is-true c.is_slot.ensures c.if-not-is_slot.false) (sym
-    c.flag.ensures ∙ c.if-flag.false) (sym c.flag-2.ensures ∙ c.if-flag-2.false) (is-yes c.whole-l.ensures.answer c.if-not-l.false)
-    (sym (name_told _ _ _ c.name_of-name.ensures c.find.ensures) ∙ sym c.is_some.ensures ∙ c.if-is_some.false) (sym (taken_is _ _ _ (c.whole-l.ensures.written (not-false _ c.if-not-l.false)) (written-fits _ _ _ (c.whole-l.ensures.written (not-false _ c.if-not-l.false)) c.whole-l.array_long)) ∙ sym c.any_taken.ensures ∙ c.if-any_taken.true)) (λ z. omega arith)
+    c.flag.ensures ∙ c.if-flag.false) (sym c.flag-2.ensures ∙ c.if-flag-2.false) (sym c.in-Some.ensures.answer)
+    (sym (name_told _ _ _ c.name_of-name.ensures c.find.ensures) ∙ sym c.is_some.ensures ∙ c.if-is_some.false) (sym (taken_is _ _ _ c.in-Some.ensures.written (written-fits _ _ _ c.in-Some.ensures.written c.whole.array_long)) ∙ sym c.any_taken.ensures ∙ c.if-any_taken.true)) (λ z. omega arith)
 
 pub returns : goal.returns
 returns c = record {
   number_is = at_none _ _ _ c.requires.0 c.if-checked-ne0.false (is-true c.is_slot.ensures c.if-not-is_slot.false) (sym c.flag.ensures ∙
-      c.if-flag.false) (sym c.flag-2.ensures ∙ c.if-flag-2.false) (is-yes c.whole-l.ensures.answer c.if-not-l.false)
-      (sym (name_told _ _ _ c.name_of-name.ensures c.find.ensures) ∙ sym c.is_some.ensures ∙ c.if-is_some.false) (sym (taken_is _ _ _ (c.whole-l.ensures.written (not-false _ c.if-not-l.false)) (written-fits _ _ _ (c.whole-l.ensures.written (not-false _ c.if-not-l.false)) c.whole-l.array_long)) ∙ sym c.any_taken.ensures ∙ c.if-any_taken.false);
+      c.if-flag.false) (sym c.flag-2.ensures ∙ c.if-flag-2.false) (sym c.in-Some.ensures.answer)
+      (sym (name_told _ _ _ c.name_of-name.ensures c.find.ensures) ∙ sym c.is_some.ensures ∙ c.if-is_some.false) (sym (taken_is _ _ _ c.in-Some.ensures.written (written-fits _ _ _ c.in-Some.ensures.written c.whole.array_long)) ∙ sym c.any_taken.ensures ∙ c.if-any_taken.false);
   room = checked-room _ _ (checked _ _ c.requires.0 c.if-checked-ne0.false);
-  written = c.whole-l.ensures.written (not-false _ c.if-not-l.false);
+  written = c.in-Some.ensures.written;
   hash-is = c.hash.ensures.is ∙ ap hash c.name_of-name.ensures;
   small = c.hash.ensures.small;
 }
