@@ -41,8 +41,9 @@ fn plan(
     if layout::flag(image, g, s, layout::SYSTEM) {
         return Err(6);
     }
-    let Some(l) = back_chain::whole(image, g, s, entries) else {
-        return Err(18);
+    let l = match back_chain::whole(image, g, s, entries) {
+        Some(l) => l,
+        None => return Err(18),
     };
     let name = entry::name_of(image, g, s);
     if look_up::find(image, g, &name).slot.is_some() {

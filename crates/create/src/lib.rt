@@ -109,8 +109,9 @@ pub fn create_checked(
             handle: look_up::opened_at(image, g, slot, &n.name, f.len, checking, f.main),
         };
     }
-    let Some(x) = space::first_free_slot(image, g) else {
-        return refused(checked, 8);
+    let x = match space::first_free_slot(image, g) {
+        Some(x) => x,
+        None => return refused(checked, 8),
     };
     put_entry(image, g, x, &n.name, f);
     Created {

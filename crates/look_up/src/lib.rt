@@ -76,12 +76,15 @@ pub fn look_up_checked(image: &[u8], g: Geometry, name: &[u8], checked: Refusal)
         };
     }
     let f = find(image, g, &n.name);
-    let Some(slot) = f.slot else {
-        return LookedUp {
-            refusal: refusal::carried(checked, 4),
-            slot: 0,
-            compared: f.compared,
-        };
+    let slot = match f.slot {
+        Some(slot) => slot,
+        None => {
+            return LookedUp {
+                refusal: refusal::carried(checked, 4),
+                slot: 0,
+                compared: f.compared,
+            };
+        }
     };
     LookedUp {
         refusal: refusal::carried(checked, 0),
@@ -197,8 +200,9 @@ pub fn open_checked(
             handle: no_handle(),
         };
     }
-    let Some(slot) = find(image, g, &n.name).slot else {
-        return refused(checked, 4);
+    let slot = match find(image, g, &n.name).slot {
+        Some(slot) => slot,
+        None => return refused(checked, 4),
     };
     if !admits(image, g, slot, checking, code) {
         return refused(checked, 5);

@@ -50,9 +50,9 @@ whole-requires c = (
   c.requires.1,
 )
 
-pub returns-in_default : goal.returns-in_default
-returns-in_default c = refuses _ _ _ (at-whole _ _ _ c.requires.0 c.if-checked-ne0.false (is-true c.is_slot.ensures c.if-not-is_slot.false) (sym c.flag.ensures ∙ c.if-flag.false)
-    (sym c.flag-2.ensures ∙ c.if-flag-2.false) (sym c.in_default.ensures.answer)) (λ z.
+pub returns-in-None : goal.returns-in-None
+returns-in-None c = refuses _ _ _ (at-whole _ _ _ c.requires.0 c.if-checked-ne0.false (is-true c.is_slot.ensures c.if-not-is_slot.false) (sym c.flag.ensures ∙ c.if-flag.false)
+    (sym c.flag-2.ensures ∙ c.if-flag-2.false) (sym c.in-None.ensures.answer)) (λ z.
     omega arith)
 
 pub name_of-name-requires : goal.name_of-name-requires

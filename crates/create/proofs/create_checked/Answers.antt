@@ -88,9 +88,9 @@ returns-in-Some c = let e = finds-one _ _ _
 pub first_free_slot-requires : goal.first_free_slot-requires
 first_free_slot-requires c = let if1 = c.if-checked-ne0 in let p = c.requires in checked-room _ _ (checked _ _ p if1.false)
 
-pub returns-in_default-first_free_slot : goal.returns-in_default-first_free_slot
-returns-in_default-first_free_slot c = told _ _ _ _ _
-    (by_number _ _ _ c.requires 8 (λ z. omega arith) refl) c.refused-in_default-first_free_slot.ensures
+pub returns-in-None : goal.returns-in-None
+returns-in-None c = told _ _ _ _ _
+    (by_number _ _ _ c.requires 8 (λ z. omega arith) refl) c.refused-in-None.ensures
     (by-slot _ _ _ _ _ c.requires c.if-checked-ne0.false
     (is-true c.in_range.ensures
     c.if-not-in_range.false)
@@ -100,7 +100,7 @@ returns-in_default-first_free_slot c = told _ _ _ _ _
     (hands-name c.incoming-n.ensures
     c.if-n-ne-NO_PLACE.false)
     c.find.ensures) c.in_default.is)
-    (slot-none _ _ c.in_default-first_free_slot.ensures)) (λ z. omega arith)
+    (slot-none _ _ c.in-None.ensures)) (λ z. omega arith)
 
 pub put_entry-requires : goal.put_entry-requires
 put_entry-requires c = let if3 = c.if-n-ne-NO_PLACE in

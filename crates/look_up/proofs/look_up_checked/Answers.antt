@@ -31,11 +31,11 @@ find-f-requires c = let if2 = c.if-n-ne-NO_PLACE in let incoming = c.incoming-n 
 )
 
 -- src/lib.rt:95:9
-pub returns-in_default : goal.returns-in_default
-returns-in_default c = let f = finds-as _ _ _
+pub returns-in-None : goal.returns-in-None
+returns-in-None c = let f = finds-as _ _ _
     (hands-name c.incoming-n.ensures
     c.if-n-ne-NO_PLACE.false) c.find-f.ensures in
-    let e = finds-none _ _ _ f c.in_default.is in
+    let e = finds-none _ _ _ f c.in-None.is in
     told _ _ _ (by_number _ _ _ c.requires 4
     (λ z. omega arith) c.carried.ensures)
     (sym (check-then _ _ _ c.requires

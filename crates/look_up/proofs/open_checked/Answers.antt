@@ -45,13 +45,13 @@ find-requires c = let if3 = c.if-n-ne-NO_PLACE in let incoming = c.incoming-n in
 )
 
 -- src/lib.rt:230:9
-pub returns-in_default : goal.returns-in_default
-returns-in_default c = let e = finds-none _ _ _ (finds-as _ _ _
+pub returns-in-None : goal.returns-in-None
+returns-in-None c = let e = finds-none _ _ _ (finds-as _ _ _
     (hands-name c.incoming-n.ensures
-    c.if-n-ne-NO_PLACE.false) c.find.ensures) c.in_default.is in
+    c.if-n-ne-NO_PLACE.false) c.find.ensures) c.in-None.is in
     open-refused _ _ _ _ _ _ (by_number _ _ _
     c.requires 4 (λ z. omega arith)
-    refl) c.refused-in_default.ensures
+    refl) c.refused-in-None.ensures
     (sym (check-then _ _ _ c.requires
     c.if-checked-ne0.false ∙ first-skip
     (not_yes (is-true c.good_length.ensures
