@@ -178,13 +178,11 @@ pub fn read_record(
     ensures { (result, buffer.new) ≡ read_record (pair g0 image0.now g1 image1.now) h buffer.old }
 {
     let held = h.handle;
-    if h.drive == 0 {
-        return drives_told::answered(0, calls::read_record(image0, g0, held, buffer));
+    match h.drive {
+        0 => drives_told::answered(0, calls::read_record(image0, g0, held, buffer)),
+        1 => drives_told::answered(1, calls::read_record(image1, g1, held, buffer)),
+        _ => drives_told::unheld(h),
     }
-    if h.drive == 1 {
-        return drives_told::answered(1, calls::read_record(image1, g1, held, buffer));
-    }
-    drives_told::unheld(h)
 }
 
 // Where the bytes of the file's sector k lie, and in the image of which drive.
@@ -200,13 +198,11 @@ pub fn sector_part(
     ensures lies { DriveLies (pair g0 image0.now g1 image1.now) result }
 {
     let held = h.handle;
-    if h.drive == 0 {
-        return drives_told::part_on(0, calls::sector_part(image0, g0, held, k));
+    match h.drive {
+        0 => drives_told::part_on(0, calls::sector_part(image0, g0, held, k)),
+        1 => drives_told::part_on(1, calls::sector_part(image1, g1, held, k)),
+        _ => drives_told::no_part(drives_told::no_such_drive()),
     }
-    if h.drive == 1 {
-        return drives_told::part_on(1, calls::sector_part(image1, g1, held, k));
-    }
-    drives_told::no_part(drives_told::no_such_drive())
 }
 
 // Read sector: the file's bytes in sector k, handed back as a part of whichever of the two lent images holds the file; beside it go out the
@@ -258,13 +254,11 @@ pub fn write_record(
         ≡ write_record (pair g0 image0.old g1 image1.old) mode h buffer.now }
 {
     let held = h.handle;
-    if h.drive == 0 {
-        return drives_told::answered(0, calls::write_record(image0, g0, mode, held, buffer));
+    match h.drive {
+        0 => drives_told::answered(0, calls::write_record(image0, g0, mode, held, buffer)),
+        1 => drives_told::answered(1, calls::write_record(image1, g1, mode, held, buffer)),
+        _ => drives_told::unheld(h),
     }
-    if h.drive == 1 {
-        return drives_told::answered(1, calls::write_record(image1, g1, mode, held, buffer));
-    }
-    drives_told::unheld(h)
 }
 
 // Allot: the file takes granules until it owns those of its sectors 0 to k.
@@ -280,13 +274,11 @@ pub fn allot(
         ≡ allot (pair g0 image0.old g1 image1.old) h k }
 {
     let held = h.handle;
-    if h.drive == 0 {
-        return drives_told::answered(0, calls::allot(image0, g0, held, k));
+    match h.drive {
+        0 => drives_told::answered(0, calls::allot(image0, g0, held, k)),
+        1 => drives_told::answered(1, calls::allot(image1, g1, held, k)),
+        _ => drives_told::unheld(h),
     }
-    if h.drive == 1 {
-        return drives_told::answered(1, calls::allot(image1, g1, held, k));
-    }
-    drives_told::unheld(h)
 }
 
 // Trim: the file gives back the granules that its size does not need.
@@ -301,13 +293,11 @@ pub fn trim(
         ≡ trim (pair g0 image0.old g1 image1.old) h }
 {
     let held = h.handle;
-    if h.drive == 0 {
-        return drives_told::answered(0, calls::trim(image0, g0, held));
+    match h.drive {
+        0 => drives_told::answered(0, calls::trim(image0, g0, held)),
+        1 => drives_told::answered(1, calls::trim(image1, g1, held)),
+        _ => drives_told::unheld(h),
     }
-    if h.drive == 1 {
-        return drives_told::answered(1, calls::trim(image1, g1, held));
-    }
-    drives_told::unheld(h)
 }
 
 // Kill: the file's entries, HIT bytes and granules are free.
@@ -322,11 +312,9 @@ pub fn kill(
         ≡ kill (pair g0 image0.old g1 image1.old) h }
 {
     let held = h.handle;
-    if h.drive == 0 {
-        return drives_told::answered(0, calls::kill(image0, g0, held));
+    match h.drive {
+        0 => drives_told::answered(0, calls::kill(image0, g0, held)),
+        1 => drives_told::answered(1, calls::kill(image1, g1, held)),
+        _ => drives_told::unheld(h),
     }
-    if h.drive == 1 {
-        return drives_told::answered(1, calls::kill(image1, g1, held));
-    }
-    drives_told::unheld(h)
 }

@@ -1,30 +1,28 @@
+use Rattle.std.proofs.Common.{arith}
 use Rattle.drives.specs.ByHandle.{allot_on, allot}
 use Rattle.drives.specs.Pair.{pair}
 use Rattle.drives_calls.proofs.OnDrive.{changed-0, changed-1, unchanged}
 use Rattle.drives_calls.proofs.allot.Goals as goal
 
-pub returns-then-h-eq0 : goal.returns-then-h-eq0
+pub returns-in-0 : goal.returns-in-0
 unfolding allot
-returns-then-h-eq0 c =
+returns-in-0 c =
     let a = c.args in
-    let the-if1 = c.if-h-eq0 in
     let the-allot = c.allot in
     let p = pair a.g0 a.image0.now a.g1 a.image1.now in
-    changed-0 p a.h (allot_on p a.h a.k) the-if1.true
+    changed-0 p a.h (allot_on p a.h a.k) c.in-0.is
     c.answered.ensures the-allot.ensures
 
-pub returns-then-h-eq1 : goal.returns-then-h-eq1
+pub returns-in-1 : goal.returns-in-1
 unfolding allot
-returns-then-h-eq1 c =
+returns-in-1 c =
     let a = c.args in
-    let the-if1 = c.if-h-eq0 in
-    let the-if2 = c.if-h-eq1 in
-    let the-allot2 = c.allot-then-h-eq1 in
+    let the-allot2 = c.allot-in-1 in
     let p = pair a.g0 a.image0.now a.g1 a.image1.now in
-    changed-1 p a.h (allot_on p a.h a.k) the-if1.false
-    the-if2.true c.answered-then-h-eq1.ensures the-allot2.ensures
+    changed-1 p a.h (allot_on p a.h a.k) (λ z. let e = c.in-1.is in omega (arith, z, e))
+    c.in-1.is c.answered-in-1.ensures the-allot2.ensures
 
-pub returns : goal.returns
+pub returns-in_default : goal.returns-in_default
 unfolding allot
-returns c = let a = c.args in let the-if1 = c.if-h-eq0 in let p = pair a.g0 a.image0.now a.g1 a.image1.now in unchanged p a.h (allot_on p a.h a.k) the-if1.false
-    c.if-h-eq1.false c.unheld.ensures
+returns-in_default c = let a = c.args in let p = pair a.g0 a.image0.now a.g1 a.image1.now in unchanged p a.h (allot_on p a.h a.k) (λ z. let e = c.in_default in omega (arith, z, e))
+    (λ z. let e = c.in_default in omega (arith, z, e)) c.unheld.ensures
