@@ -3,7 +3,7 @@
 // and tells the number of the call and the directory's bytes.
 #![tactic(auto)]
 
-ghost use Rattle.std.specs.Prelude.{◌<◌, ◌≤◌, length};
+ghost use Rattle.std.specs.Prelude.{◌+◌, ◌<◌, ◌≤◌, length};
 
 use meaning::{Geometry, Handle, Mode, NewFile};
 
@@ -24,6 +24,7 @@ fn reserve(part: &mut [u8]) {
     if part.len() < 2560 {
         return;
     }
+    // (the search does not find that twelve bytes of a part of any length are twelve)
     copy::put_part(
         part,
         0,
@@ -33,35 +34,33 @@ fn reserve(part: &mut [u8]) {
     );
 }
 
+// Bytes that the directory should have from a place on.
+fn put(should: &mut [u8; 2560], at: usize, bytes: &[u8])
+    requires { at + length bytes.now ≤ 2560 }
+{
+    should[at..at + bytes.len()].copy_from_slice(bytes);
+}
+
 // The bytes of a part, in hexadecimal.
 fn show(part: &[u8]) {
-    let mut i = 0;
-    while i < part.len() {
-        show_byte(part[i]);
-        i += 1;
+    for &byte in part {
+        io::print_hex(1, u64::from(byte), 2);
     }
 }
 
-fn show_byte(b: u8) {
-    io::print_hex(1, b as u64, 2);
-}
-
 // An entry: its 32 bytes on a line.
-fn show_entry(image: &[u8], slot: &[u8], at: usize)
-    requires { (at < 2000) × (2560 ≤ length image.now) }
+fn show_entry(image: &[u8; 30720], slot: &[u8], at: usize)
+    requires { at < 2000 }
 {
     io::write_all(1, slot);
-    let e = at + 32;
-    show(&image[at..e]);
+    show(&image[at..at + 32]);
     io::write_all(1, b"\n");
 }
 
 // The bytes that the steps change: the GAT, the HIT bytes and the entries of slots 80H to 83H.
-fn show_directory(image: &[u8])
-    requires { 2560 ≤ length image.now }
-{
+fn show_directory(image: &[u8; 30720]) {
     io::write_all(1, b"  GAT ");
-    show(&image[0..12]);
+    show(&image[..12]);
     io::write_all(1, b"  HIT 80 ");
     show(&image[384..388]);
     io::write_all(1, b"\n");
@@ -72,14 +71,11 @@ fn show_directory(image: &[u8])
 }
 
 // One step: what was called, the number that it gave, and whether all ten sectors of the directory are as they should be.
-fn told(image: &[u8], should: &[u8], words: &[u8], number: u8) {
-    if image.len() < 2560 {
-        return;
-    }
+fn told(image: &[u8; 30720], should: &[u8; 2560], words: &[u8], number: u8) {
     io::write_all(1, words);
     io::write_all(1, b": ");
-    io::print_decimal(1, number as u64);
-    if check::same(&image[0..2560], should) {
+    io::print_decimal(1, u64::from(number));
+    if image[..2560] == should[..] {
         io::write_all(1, b", as it should be\n");
     } else {
         io::write_all(1, b", NOT AS IT SHOULD BE\n");
@@ -99,12 +95,10 @@ fn create_pulses(image: &mut [u8; 30720], should: &mut [u8; 2560]) -> Handle {
     };
     let c = calls::create(image, disk(), b"PULS01  DAT", f, true);
     should[384] = 0xc1;
-    copy::put_part(
+    put(
         should,
         640,
         b"\x10\x09\x3a\x00\x00PULS01  DAT\x34\x12\x78\x56\x00\x00\xff\xff\xff\xff\xff\xff\xff\xff\xff\xff",
-        0,
-        32,
     );
     told(image, should, b"create PULS01/DAT", c.refusal.number);
     c.handle
@@ -122,12 +116,10 @@ fn create_empty(image: &mut [u8; 30720], should: &mut [u8; 2560]) -> Handle {
     };
     let c = calls::create(image, disk(), b"LEER       ", f, true);
     should[385] = 0x70;
-    copy::put_part(
+    put(
         should,
         896,
         b"\x10\x01\x41\x00\x10LEER       \x00\x00\x00\x00\x00\x00\xff\xff\xff\xff\xff\xff\xff\xff\xff\xff",
-        0,
-        32,
     );
     told(image, should, b"create LEER", c.refusal.number);
     c.handle
@@ -137,7 +129,7 @@ fn create_empty(image: &mut [u8; 30720], should: &mut [u8; 2560]) -> Handle {
 fn first_granules(image: &mut [u8; 30720], should: &mut [u8; 2560], pulses: Handle, empty: Handle) {
     let a = calls::allot(image, disk(), pulses, 0);
     should[1] = 0x03;
-    copy::put_part(should, 640 + 0x16, b"\x01\x00", 0, 2);
+    put(should, 640 + 0x16, b"\x01\x00");
     told(
         image,
         should,
@@ -146,15 +138,15 @@ fn first_granules(image: &mut [u8; 30720], should: &mut [u8; 2560], pulses: Hand
     );
     let b = calls::allot(image, disk(), empty, 4);
     should[2] = 0x03;
-    copy::put_part(should, 896 + 0x16, b"\x02\x00", 0, 2);
+    put(should, 896 + 0x16, b"\x02\x00");
     told(image, should, b"allot LEER to sector 4", b.refusal.number);
 }
 
 // Four runs, then a fifth in an extension at slot 82H.
 fn first_extension(image: &mut [u8; 30720], should: &mut [u8; 2560], pulses: Handle) {
     let a = calls::allot(image, disk(), pulses, 19);
-    copy::put_part(should, 3, b"\x03\x03\x03", 0, 3);
-    copy::put_part(should, 640 + 0x18, b"\x03\x00\x04\x00\x05\x00", 0, 6);
+    put(should, 3, b"\x03\x03\x03");
+    put(should, 640 + 0x18, b"\x03\x00\x04\x00\x05\x00");
     told(
         image,
         should,
@@ -164,7 +156,7 @@ fn first_extension(image: &mut [u8; 30720], should: &mut [u8; 2560], pulses: Han
     let b = calls::allot(image, disk(), pulses, 20);
     should[6] = 0x03;
     should[386] = 0xc1;
-    copy::put_part(should, 640 + 0x1e, b"\xfe\x82", 0, 2);
+    put(should, 640 + 0x1e, b"\xfe\x82");
     put_extension(should);
     told(
         image,
@@ -176,32 +168,22 @@ fn first_extension(image: &mut [u8; 30720], should: &mut [u8; 2560], pulses: Han
 
 // The extension at slot 82H as it is made, with granule 12.
 fn put_extension(should: &mut [u8; 2560]) {
-    copy::put_part(
+    put(
         should,
         1152,
         b"\x90\x80\x00\x00\x00\x00\x00\x00\x00\x00\x00\x00\x00\x00\x00\x00\x00\x00\x00\x00\x00\x00\x06\x00\xff\xff\xff\xff\xff\xff\xff\xff",
-        0,
-        32,
     );
 }
 
 // The extension at slot 82H full, and a second one at slot 83H with granule 20.
 fn put_second(should: &mut [u8; 2560]) {
-    copy::put_part(should, 7, b"\x03\x03\x03\x03", 0, 4);
+    put(should, 7, b"\x03\x03\x03\x03");
     should[387] = 0xc1;
-    copy::put_part(
-        should,
-        1152 + 0x18,
-        b"\x07\x00\x08\x00\x09\x00\xfe\x83",
-        0,
-        8,
-    );
-    copy::put_part(
+    put(should, 1152 + 0x18, b"\x07\x00\x08\x00\x09\x00\xfe\x83");
+    put(
         should,
         1408,
         b"\x90\x82\x00\x00\x00\x00\x00\x00\x00\x00\x00\x00\x00\x00\x00\x00\x00\x00\x00\x00\x00\x00\x0a\x00\xff\xff\xff\xff\xff\xff\xff\xff",
-        0,
-        32,
     );
 }
 
@@ -217,7 +199,7 @@ fn second_extension(image: &mut [u8; 30720], should: &mut [u8; 2560], pulses: Ha
     );
     let b = calls::allot(image, disk(), pulses, 54);
     should[11] = 0x03;
-    copy::put_part(should, 1408 + 0x18, b"\x0b\x01", 0, 2);
+    put(should, 1408 + 0x18, b"\x0b\x01");
     told(
         image,
         should,
@@ -236,14 +218,12 @@ fn second_extension(image: &mut [u8; 30720], should: &mut [u8; 2560], pulses: Ha
 // Of the size 0 no granule is kept: both extensions go.
 fn trim_to_none(image: &mut [u8; 30720], should: &mut [u8; 2560], pulses: Handle) {
     let a = calls::trim(image, disk(), pulses);
-    copy::put_part(
+    put(
         should,
         0,
         b"\x03\x02\x03\x02\x02\x02\x02\x02\x02\x02\x02\x00",
-        0,
-        12,
     );
-    copy::put_part(should, 386, b"\x00\x00", 0, 2);
+    put(should, 386, b"\x00\x00");
     put_unused(should, 640 + 0x16);
     should[1152] = 0x80;
     put_unused(should, 1152 + 0x16);
@@ -256,32 +236,23 @@ fn trim_to_none(image: &mut [u8; 30720], should: &mut [u8; 2560], pulses: Handle
 fn put_unused(should: &mut [u8; 2560], at: usize)
     requires { at < 2000 }
 {
-    copy::put_part(
-        should,
-        at,
-        b"\xff\xff\xff\xff\xff\xff\xff\xff\xff\xff",
-        0,
-        10,
-    );
+    put(should, at, b"\xff\xff\xff\xff\xff\xff\xff\xff\xff\xff");
 }
 
 // A record of 256 bytes at position 5,120: 5 granules, so an extension again; then space for a second one.
 fn write_far(image: &mut [u8; 30720], should: &mut [u8; 2560], pulses: Handle) {
     let record = [0x55u8; 256];
-    let mut h = pulses;
-    h.at = 5120;
+    let h = Handle { at: 5120, ..pulses };
     let a = calls::write_record(image, disk(), Mode::Random, h, &record);
     should[1] = 0x03;
-    copy::put_part(should, 3, b"\x03\x03\x03\x03", 0, 4);
+    put(should, 3, b"\x03\x03\x03\x03");
     should[386] = 0xc1;
     should[641] = 0x29;
     should[640 + 0x14] = 0x15;
-    copy::put_part(
+    put(
         should,
         640 + 0x16,
         b"\x01\x00\x03\x00\x04\x00\x05\x00\xfe\x82",
-        0,
-        10,
     );
     put_extension(should);
     told(
@@ -303,15 +274,9 @@ fn write_far(image: &mut [u8; 30720], should: &mut [u8; 2560], pulses: Handle) {
 // Trim keeps 5 granules, and one extension. A write at the start makes the size 256; trim keeps one granule, and no extension.
 fn trim_to_one(image: &mut [u8; 30720], should: &mut [u8; 2560], pulses: Handle) {
     let a = calls::trim(image, disk(), pulses);
-    copy::put_part(should, 7, b"\x02\x02\x02\x02", 0, 4);
+    put(should, 7, b"\x02\x02\x02\x02");
     should[387] = 0;
-    copy::put_part(
-        should,
-        1152 + 0x18,
-        b"\xff\xff\xff\xff\xff\xff\xff\xff",
-        0,
-        8,
-    );
+    put(should, 1152 + 0x18, b"\xff\xff\xff\xff\xff\xff\xff\xff");
     should[1408] = 0x80;
     put_unused(should, 1408 + 0x16);
     told(image, should, b"trim PULS01/DAT", a.refusal.number);
@@ -325,10 +290,10 @@ fn trim_to_one(image: &mut [u8; 30720], should: &mut [u8; 2560], pulses: Handle)
         b.refusal.number,
     );
     let c = calls::trim(image, disk(), pulses);
-    copy::put_part(should, 3, b"\x02\x02\x02\x02", 0, 4);
+    put(should, 3, b"\x02\x02\x02\x02");
     should[386] = 0;
     put_unused(should, 640 + 0x16);
-    copy::put_part(should, 640 + 0x16, b"\x01\x00", 0, 2);
+    put(should, 640 + 0x16, b"\x01\x00");
     should[1152] = 0x80;
     put_unused(should, 1152 + 0x16);
     told(image, should, b"trim PULS01/DAT", c.refusal.number);
