@@ -34,7 +34,8 @@ module _ (g : Geometry) (d : List ℕ) (s : ℕ) where
   by_size h = all-out _ 5 h
 
   -- the walk goes along 01's chain
-  pub lined : {k : ℕ} {es : List ℕ} {r : Option Walked} → Room g d → k ≡ directory_sectors g d → Lined g d (8 * (k - 2)) s es r → Lined g d (length (slots g d)) s es
+  pub lined : {k : ℕ} {es : List ℕ} {r : Option Walked} → Room g d → k ≡ directory_sectors g d → Lined g d (8 * (k - 2)) s es r → Lined g d
+      (length (slots g d)) s es
       r
   lined {k} {es} {r} rm q l =
       let w : 8 * (k - 2) ≡ length (slots g d) = ap (λ (j : ℕ). 8 * (j - 2)) q ∙ sym (slots_length g d rm.ten rm.thirty) in

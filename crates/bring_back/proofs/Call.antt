@@ -102,7 +102,8 @@ module _ (g : Geometry) (d : List ℕ) (s : ℕ) where
   pub slice-is : {es : List ℕ} {n size : ℕ} → Written g d (chain g d s) es n size → n ≤ length es → take n es ≡ chain g d s
   slice-is {es} {n} w h = sym (first-take es n h) ∙ sym w.entries-are
 
-  pub taken_is : {es : List ℕ} {n size : ℕ} → Written g d (chain g d s) es n size → n ≤ length es → some (taken g d) (each (entry_granules g d) (take n es)) ≡ some
+  pub taken_is : {es : List ℕ} {n size : ℕ} → Written g d (chain g d s) es n size → n ≤ length es → some (taken g d)
+      (each (entry_granules g d) (take n es)) ≡ some
       (taken g d) (owned g d s)
   unfolding owned
   taken_is w h = ap (λ (l : List ℕ). some (taken g d) (each (entry_granules g d) l)) (slice-is w h)
@@ -120,10 +121,12 @@ module _ (g : Geometry) (d : List ℕ) (s : ℕ) where
   pub taken-same : {es d' : List ℕ} {n size : ℕ} → Room g d → Written g d (chain g d s) es n size → n ≤ length es → d' ≡ through (take_granule g) d
       (each (entry_granules g d) (take n es)) → Same g d d'
   taken-same {es} {d'} {n} {size} r w h e =
-      rw (e, ← first-take es n h) (same_taken g d (each (entry_granules g d) (first_of es n)) r (under-each g d (first_of es n) (listed_in g d es n w.listed.entry)))
+      rw (e, ← first-take es n h) (same_taken g d (each (entry_granules g d) (first_of es n)) r
+          (under-each g d (first_of es n) (listed_in g d es n w.listed.entry)))
 
   -- the image with the file brought back, by the entries written down
-  back_is : {es d' d'' : List ℕ} {n size h : ℕ} → Written g d (chain g d s) es n size → n ≤ length es → h ≡ hash (name_of g d s) → d' ≡ through (take_granule g) d
+  back_is : {es d' d'' : List ℕ} {n size h : ℕ} → Written g d (chain g d s) es n size → n ≤ length es → h ≡ hash (name_of g d s) → d' ≡ through
+      (take_granule g) d
       (each (entry_granules g d) (take n es))
       → d'' ≡ through (back_entry g h) d' (take n es) → d'' ≡ BringBack.brought_back g d s
   unfolding owned

@@ -1,5 +1,6 @@
 -- What the walk along a chain tests, and what it leaves in the maps.
-use Rattle.std.specs.Prelude.{◌≡◌, Bool, true, false, not, cond, List, [], ◌∷◌, ℕ, zero, suc, ◌+◌, ◌*◌, ◌/◌, ◌%◌, ◌≤◌, eqb, ltb, leb, length, Option, Some, None, is_some, IfSome}
+use Rattle.std.specs.Prelude.{◌≡◌, Bool, true, false, not, cond, List, [], ◌∷◌, ℕ, zero, suc, ◌+◌, ◌*◌, ◌/◌, ◌%◌, ◌≤◌, eqb, ltb, leb, length, Option}
+use Rattle.std.specs.Prelude.{Some, None, is_some, IfSome}
 use Rattle.meaning.specs.Lists.{each, all, any}
 use Rattle.meaning.specs.Layout.{granules, field, hit, is_slot, entry_at, granule_sectors}
 use Rattle.meaning.specs.Entries.{runs, block, first_unit, run_start, run_length, run_granules, entry_granules, marker, link}

@@ -84,7 +84,8 @@ module _ (g : Geometry) (d : List ℕ) where
     each' = λ p l st. let x = z.each' p l st in (x.0, x.1, get_or-take n o x.0 0 x.1 ∙ x.2);
   })
     where
-      named : (i k : ℕ) → i < n → k < n → before (name_in g d o i) (name_in g d o k) ≡ true → before (name_in g d (take n o) i) (name_in g d (take n o) k) ≡ true
+      named : (i k : ℕ) → i < n → k < n → before (name_in g d o i) (name_in g d o k) ≡ true → before (name_in g d (take n o) i)
+          (name_in g d (take n o) k) ≡ true
       named i k a b e = (λ j. before (name_of g d (get_or-take n o i 0 a j)) (name_of g d (get_or-take n o k 0 b j))) ∙ e
 
   pub goes-part : (o : List ℕ) (n s r : ℕ) → n ≤ length o → GoesTo g d (take n o) (length (take n o)) s r → GoesTo g d o n s r

@@ -145,7 +145,8 @@ module _ (g : Geometry) (d : List ℕ) where
         by q t l k b s u i (yes e) = (was q k).0 (rw e at i)
         by q t l k b s u i (no e) = c.free q t l (was q k).1 (omega arith) s u i
 
-  pub clearing-step : (n : ℕ) {m m' : List ℕ} {r : Option Pairs} → Entered g d n 1 m m' r → is_some r ≡ true → ClearThrough g d n m → ClearThrough g d (n + 1) m'
+  pub clearing-step : (n : ℕ) {m m' : List ℕ} {r : Option Pairs} → Entered g d n 1 m m' r → is_some r ≡ true → ClearThrough g d n m → ClearThrough g d
+      (n + 1) m'
   clearing-step n {r = None} w ok c = not-both ok refl
   clearing-step n {r = Some p} w ok c = clearing-taken n w c
 

@@ -115,7 +115,8 @@ unfolding none
 all-none [] = refl
 all-none (x ∷ xs) = by (eqb x 0x20) (all-none xs)
   where
-    by : (b : Bool) → list_all (λ y. eqb y 0x20) xs ≡ none (stripped xs) → (b && list_all (λ y. eqb y 0x20) xs) ≡ none (cond (not b) (x ∷ stripped xs) (stripped xs))
+    by : (b : Bool) → list_all (λ y. eqb y 0x20) xs ≡ none (stripped xs) → (b && list_all (λ y. eqb y 0x20) xs) ≡ none
+        (cond (not b) (x ∷ stripped xs) (stripped xs))
     by true e = e
     by false e = refl
 

@@ -1,5 +1,6 @@
 use Rattle.check_walk.proofs.WalkSteps.{walked_on}
-use Rattle.check_walk.proofs.WalkSteps.{slot-in, goes-place, walked_none, walked-again, walked-entry-no, walked-entry, none_taken, was_taken, walked_end, walked_stop}
+use Rattle.check_walk.proofs.WalkSteps.{slot-in, goes-place, walked_none, walked-again, walked-entry-no, walked-entry, none_taken, was_taken}
+use Rattle.check_walk.proofs.WalkSteps.{walked_end, walked_stop}
 use Rattle.lists.specs.Tests.{is-false, is-true}
 use mathlib.Core.Path.{refl}
 use native.Mathlib.Omega.{arith}
@@ -15,11 +16,13 @@ pub entry_walk-returns-then-p-eq0 : goal.entry_walk-returns-then-p-eq0
 entry_walk-returns-then-p-eq0 t c = walked-entry-no _ _ _ _ c.if-left-eq0.false (none_taken _ _ _ c.take_pairs-p.ensures c.if-p-eq0.true)
 
 pub entry_walk-returns-then-field_at-eq-ENDS : goal.entry_walk-returns-then-field_at-eq-ENDS
-entry_walk-returns-then-field_at-eq-ENDS t c = walked-entry _ _ _ _ c.if-left-eq0.false c.if-met-s-lt1.false (was_taken _ _ _ c.take_pairs-p.ensures c.if-p-eq0.false)
+entry_walk-returns-then-field_at-eq-ENDS t c = walked-entry _ _ _ _ c.if-left-eq0.false c.if-met-s-lt1.false
+    (was_taken _ _ _ c.take_pairs-p.ensures c.if-p-eq0.false)
     (walked_end _ _ _ _ _ _ c.granule_sectors.ensures.is c.field_at.ensures.is c.if-field_at-eq-ENDS.true)
 
 pub entry_walk-returns : goal.entry_walk-returns
-entry_walk-returns t c = walked-entry _ _ _ _ c.if-left-eq0.false c.if-met-s-lt1.false (was_taken _ _ _ c.take_pairs-p.ensures c.if-p-eq0.false) c.marker_walk.ensures
+entry_walk-returns t c = walked-entry _ _ _ _ c.if-left-eq0.false c.if-met-s-lt1.false
+    (was_taken _ _ _ c.take_pairs-p.ensures c.if-p-eq0.false) c.marker_walk.ensures
 
 pub marker_walk-returns-then-not-goes_on : goal.marker_walk-returns-then-not-goes_on
 marker_walk-returns-then-not-goes_on t c = walked_stop _ _ _ _ _ refl c.requires.4 (is-false c.goes_on.ensures c.if-not-goes_on.true)

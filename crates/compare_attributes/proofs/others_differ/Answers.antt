@@ -4,7 +4,9 @@ use mathlib.Core.Path.{◌≡◌, refl, ◌∙◌}
 use Prim.Native.Nat.{◌/◌}
 use Rattle.compare_attributes.proofs.Attributes.{or-then, or-else, up_to-high, up_to-4, up_to-10, up_to-11, up_to-12, up_to-13}
 use Rattle.compare_attributes.proofs.others_differ.Goals as goal
-use Rattle.compare_attributes.proofs.others_differ.Goals.{then-differs_at, else-differs_at, then-field, else-field, then-differs_at-2, else-differs_at-2, then-differs_at-3, else-differs_at-3, then-differs_at-4, else-differs_at-4}
+use Rattle.compare_attributes.proofs.others_differ.Goals.{then-differs_at, else-differs_at, then-field, else-field, then-differs_at-2}
+use Rattle.compare_attributes.proofs.others_differ.Goals.{else-differs_at-2, then-differs_at-3, else-differs_at-3, then-differs_at-4}
+use Rattle.compare_attributes.proofs.others_differ.Goals.{else-differs_at-4}
 
 pub returns-then-differs_at-5 : goal.returns-then-differs_at-5
 returns-then-differs_at-5 c =

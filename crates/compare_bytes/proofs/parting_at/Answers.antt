@@ -1,4 +1,5 @@
-use Rattle.compare_bytes.proofs.Contents.{least-first, least-second, least-other, used, owned-byte, run_fits, run_is, matches-start, matches-on, matches-stop, matches-end}
+use Rattle.compare_bytes.proofs.Contents.{least-first, least-second, least-other, used, owned-byte, run_fits, run_is, matches-start, matches-on}
+use Rattle.compare_bytes.proofs.Contents.{matches-stop, matches-end}
 use Rattle.read.proofs.ReadParts.{length-fetch}
 use lib.ListN.{length}
 use mathlib.Core.Path.{sym, ap, ◌∙◌}
@@ -170,7 +171,8 @@ returns-then-c-len c =
     let l = c.loop-i in
     let least = c.min-end in
     let a = c.args in
-    matches-stop _ _ _ _ _ _ _ _ _ l.i part.result (least-first _ _ least.ensures) (least-second _ _ least.ensures) (omega (arith, part.ensures.3, loop-test.true))
+    matches-stop _ _ _ _ _ _ _ _ _ l.i part.result (least-first _ _ least.ensures) (least-second _ _ least.ensures)
+        (omega (arith, part.ensures.3, loop-test.true))
     (run_is a.g a.first.now a.s l.i part.result reach.ensures.0 reach.ensures.1
     (omega (arith, part.ensures.1, reach.ensures.2)))
     (run_is a.h a.second.now a.t l.i part.result reach2.ensures.0 reach2.ensures.1
@@ -196,7 +198,8 @@ loop-i-preserved c =
     let l = c.loop-i in
     let least = c.min-end in
     let a = c.args in (
-      matches-on _ _ _ _ _ _ _ _ _ l.i part.result (least-first _ _ least.ensures) (least-second _ _ least.ensures) (omega (arith, part.ensures.3, loop-test.true))
+      matches-on _ _ _ _ _ _ _ _ _ l.i part.result (least-first _ _ least.ensures) (least-second _ _ least.ensures)
+          (omega (arith, part.ensures.3, loop-test.true))
           (run_is a.g a.first.now a.s l.i part.result reach.ensures.0 reach.ensures.1
           (omega (arith, part.ensures.1, reach.ensures.2)))
           (run_is a.h a.second.now a.t l.i part.result reach2.ensures.0 reach2.ensures.1
@@ -210,4 +213,5 @@ loop-i-preserved c =
     )
 
 pub returns : goal.returns
-returns c = let least = c.min-end in matches-end _ _ _ _ _ _ _ _ _ (least-first _ _ least.ensures) (least-second _ _ least.ensures) (least-other _ _ least.ensures) c.loop-i-test.false c.loop-i.invariant.0
+returns c = let least = c.min-end in matches-end _ _ _ _ _ _ _ _ _ (least-first _ _ least.ensures) (least-second _ _ least.ensures)
+    (least-other _ _ least.ensures) c.loop-i-test.false c.loop-i.invariant.0

@@ -42,7 +42,8 @@ find-requires c = let if3 = c.if-n-ne-NO_PLACE in let incoming = c.incoming-n in
 )
 
 pub admits-requires : goal.admits-requires
-admits-requires c = let if1 = c.if-checked-ne0 in let p = c.requires in (checked-room _ _ (checked _ _ p if1.false), finds-slot _ _ _ c.find.ensures c.in-Some.is)
+admits-requires c = let if1 = c.if-checked-ne0 in let p = c.requires in
+    (checked-room _ _ (checked _ _ p if1.false), finds-slot _ _ _ c.find.ensures c.in-Some.is)
 
 pub returns-then-not-admits : goal.returns-then-not-admits
 returns-then-not-admits c = told _ _ _ _ _

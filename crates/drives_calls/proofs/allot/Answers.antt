@@ -24,5 +24,6 @@ returns-in-1 c =
 
 pub returns-in_default : goal.returns-in_default
 unfolding allot
-returns-in_default c = let a = c.args in let p = pair a.g0 a.image0.now a.g1 a.image1.now in unchanged p a.h (allot_on p a.h a.k) (λ z. let e = c.in_default in omega (arith, z, e))
+returns-in_default c = let a = c.args in let p = pair a.g0 a.image0.now a.g1 a.image1.now in unchanged p a.h (allot_on p a.h a.k)
+    (λ z. let e = c.in_default in omega (arith, z, e))
     (λ z. let e = c.in_default in omega (arith, z, e)) c.unheld.ensures

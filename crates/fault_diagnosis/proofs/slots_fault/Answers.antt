@@ -20,7 +20,8 @@ fault_in-requires c = let note-goods = c.note_goods in let note-files = c.note_f
     let names-clear = c.names_clear-names in let p = c.requires in (p, names-clear.ensures, runs-clear.ensures, note-files.ensures, note-goods.ensures)
 
 pub returns-in-Some : goal.returns-in-Some
-returns-in-Some c = slot-found _ _ _ _ _ c.loop-s.invariant (c.number.ensures ∙ c.in-Some.ensures) c.loop-s-test.true (λ z. let k = some-number c.in-Some.kind in let e = c.number.ensures in omega (arith, z, k, e))
+returns-in-Some c = slot-found _ _ _ _ _ c.loop-s.invariant (c.number.ensures ∙ c.in-Some.ensures) c.loop-s-test.true
+    (λ z. let k = some-number c.in-Some.kind in let e = c.number.ensures in omega (arith, z, k, e))
 
 pub loop-s-preserved : goal.loop-s-preserved
 loop-s-preserved c = slot-clear _ _ _ _ 0 c.loop-s.invariant c.in_default.ensures c.loop-s-test.true refl

@@ -11,7 +11,8 @@ pub flag-requires : goal.flag-requires
 flag-requires c = (c.requires.0, slot-of _ _ _ (is-true c.is_slot.ensures c.if-is_slot.true), omega arith)
 
 pub entries_meet-requires : goal.entries_meet-requires
-entries_meet-requires c = let a = c.args in let t : is_slot a.g a.image.now a.t ≡ true = grind (arith, common_steps) in (c.requires.0, c.requires.1, slot-of _ _ _ t)
+entries_meet-requires c = let a = c.args in let t : is_slot a.g a.image.now a.t ≡ true = grind (arith, common_steps) in
+    (c.requires.0, c.requires.1, slot-of _ _ _ t)
 
 pub returns-then-flag : goal.returns-then-flag
 unfolding shares all any

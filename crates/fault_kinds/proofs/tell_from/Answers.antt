@@ -1,4 +1,5 @@
-use Rattle.fault_kinds.proofs.tell_from.Goals.{else-is_slot-via-then-is_slot+then-hands_on+else-walked, else-is_slot-via-then-is_slot+else-hands_on, else-is_slot-via-else-is_slot}
+use Rattle.fault_kinds.proofs.tell_from.Goals.{else-is_slot-via-then-is_slot+then-hands_on+else-walked, else-is_slot-via-then-is_slot+else-hands_on}
+use Rattle.fault_kinds.proofs.tell_from.Goals.{else-is_slot-via-else-is_slot}
 use Rattle.std.proofs.Common.{subst, List, ℕ, ◌+◌}
 use Rattle.std.proofs.Common.{arith, sym}
 use Rattle.layout.proofs.HasRoom.{slot-of}
@@ -14,10 +15,12 @@ pub field-x-requires : goal.field-x-requires
 field-x-requires c = (c.requires.0, slot-of _ _ _ (is-true c.is_slot.ensures c.if-is_slot.true), omega arith)
 
 pub tally-t-requires : goal.tally-t-requires
-tally-t-requires c = (c.requires.0, leads-to _ _ _ (is-true c.is_slot.ensures c.if-is_slot.true) c.field-x.ensures.is (is-true c.hands_on.ensures c.if-hands_on.true) (is-true c.walked.ensures c.if-walked.true))
+tally-t-requires c = (c.requires.0, leads-to _ _ _ (is-true c.is_slot.ensures c.if-is_slot.true) c.field-x.ensures.is
+    (is-true c.hands_on.ensures c.if-hands_on.true) (is-true c.walked.ensures c.if-walked.true))
 
 pub returns-then-walked : goal.returns-then-walked
-returns-then-walked c = let a = c.args in subst (λ (l : List ℕ). Leading a.g a.image.now (a.b + 1) l) (sym c.tell.ensures) (leading_step _ _ _ _ _ c.requires.2 c.field-x.ensures.is c.field-x.ensures.small c.tally-t.ensures.0 c.tally-t.ensures.1 c.tally-t.ensures.2 c.requires.3)
+returns-then-walked c = let a = c.args in subst (λ (l : List ℕ). Leading a.g a.image.now (a.b + 1) l) (sym c.tell.ensures)
+    (leading_step _ _ _ _ _ c.requires.2 c.field-x.ensures.is c.field-x.ensures.small c.tally-t.ensures.0 c.tally-t.ensures.1 c.tally-t.ensures.2 c.requires.3)
 
 pub returns-else-is_slot : goal.returns-else-is_slot
 returns-else-is_slot c = let p = c.requires in elim c.else-is_slot.branch [

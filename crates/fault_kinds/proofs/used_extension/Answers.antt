@@ -11,7 +11,8 @@ pub flag-requires : goal.flag-requires
 flag-requires c = (c.requires, slot-of _ _ _ (is-true c.is_slot.ensures c.if-is_slot.true), omega arith)
 
 pub flag-requires-then-flag : goal.flag-requires-then-flag
-flag-requires-then-flag c = let a = c.args in let t : is_slot a.g a.image.now a.x ≡ true = grind (arith, common_steps) in (c.requires, slot-of _ _ _ t, omega arith)
+flag-requires-then-flag c = let a = c.args in let t : is_slot a.g a.image.now a.x ≡ true = grind (arith, common_steps) in
+    (c.requires, slot-of _ _ _ t, omega arith)
 
 pub returns-then-flag : goal.returns-then-flag
 unfolding used_extension all any

@@ -3,7 +3,8 @@ use Rattle.space.proofs.First.{slot-open, slot-past, slot_kept, slot-used, keeps
 use mathlib.Core.Path.{refl, sym, ◌∙◌}
 use native.Mathlib.Omega.{arith}
 use Rattle.growth_search.proofs.next_slot.Goals as goal
-use Rattle.growth_search.proofs.next_slot.Goals.{else-hit-eq0-via-then-hit-eq0+then-s-n+else-kept_columns-s, else-hit-eq0-via-then-hit-eq0+else-s-n, else-hit-eq0-via-else-hit-eq0}
+use Rattle.growth_search.proofs.next_slot.Goals.{else-hit-eq0-via-then-hit-eq0+then-s-n+else-kept_columns-s, else-hit-eq0-via-then-hit-eq0+else-s-n}
+use Rattle.growth_search.proofs.next_slot.Goals.{else-hit-eq0-via-else-hit-eq0}
 
 pub loop-s-init : goal.loop-s-init
 loop-s-init c = looking-start _ _ c.requires.1

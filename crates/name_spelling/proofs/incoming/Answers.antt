@@ -11,7 +11,9 @@ returns-then-well_formed c = let e = c.copy_from_slice.ensures.after in
     hands-well _ (sym (c.well_formed-2.ensures) ∙ c.if-well_formed.true) e
 
 pub returns-then-place-eq-NO_PLACE : goal.returns-then-place-eq-NO_PLACE
-returns-then-place-eq-NO_PLACE c = hands-folded _ (c.fold-folded.ensures ∙ ap fold c.copy_from_slice.ensures.after) c.bad_place-place.ensures c.if-place-eq-NO_PLACE.true
+returns-then-place-eq-NO_PLACE c = hands-folded _ (c.fold-folded.ensures ∙ ap fold c.copy_from_slice.ensures.after) c.bad_place-place.ensures
+    c.if-place-eq-NO_PLACE.true
 
 pub returns-else-place-eq-NO_PLACE : goal.returns-else-place-eq-NO_PLACE
-returns-else-place-eq-NO_PLACE c = hands-place _ (c.fold-folded.ensures ∙ ap fold c.copy_from_slice.ensures.after) c.bad_place-place.ensures c.if-place-eq-NO_PLACE.false refl
+returns-else-place-eq-NO_PLACE c = hands-place _ (c.fold-folded.ensures ∙ ap fold c.copy_from_slice.ensures.after) c.bad_place-place.ensures
+    c.if-place-eq-NO_PLACE.false refl
