@@ -122,7 +122,7 @@ module _ (g : Geometry) (d : List ℕ) (s : ℕ) where
       (each (entry_granules g d) (take n es)) → Same g d d'
   taken-same {es} {d'} {n} {size} r w h e =
       rw (e, ← first-take es n h) (same_taken g d (each (entry_granules g d) (first_of es n)) r
-          (under-each g d (first_of es n) (listed_in g d es n w.listed.entry)))
+      (under-each g d (first_of es n) (listed_in g d es n w.listed.entry)))
 
   -- the image with the file brought back, by the entries written down
   back_is : {es d' d'' : List ℕ} {n size h : ℕ} → Written g d (chain g d s) es n size → n ≤ length es → h ≡ hash (name_of g d s) → d' ≡ through

@@ -183,8 +183,12 @@ module _ (g : Geometry) where
     pub used : Used g d at
 
   pub clearing-start : (d : List ℕ) (most s : ℕ) → Used g d s → Clearing d most s d s 0
-  clearing-start d most s u = record { rest = ap (λ (n : ℕ). through (kill_entry g) d (chain_from g d n s))
-      (sym (sub-zero most)); kept = record { long = refl; sectors = refl; fields = λ x k sl a b. refl }; used = u }
+  clearing-start d most s u = record {
+    rest = ap (λ (n : ℕ). through (kill_entry g) d (chain_from g d n s))
+        (sym (sub-zero most));
+    kept = record { long = refl; sectors = refl; fields = λ x k sl a b. refl };
+    used = u;
+  }
 
   cleared : {d d' d'' : List ℕ} {most s at i : ℕ} → Clearing d most s d' at i → i < most → d'' ≡ kill_entry g d' at
       → through (kill_entry g) d (chain_from g d most s) ≡ through (kill_entry g) d'' (onward g d (most - (i + 1)) at)
@@ -223,7 +227,7 @@ module _ (g : Geometry) where
 
   pub killed : {d d' d'' : List ℕ} {n s : ℕ} → Walkable g d → Used g d s → n ≡ 8 * (directory_sectors g d - 2) → d' ≡ through (free_granule g) d
       (each (entry_granules g d) (chain_from g d n s)) → d'' ≡ through (kill_entry g) d' (chain_from g d' n s) → d'' ≡ through (kill_entry g)
-          (through (free_granule g) d (owned g d s))
+      (through (free_granule g) d (owned g d s))
       (chain g d s)
   unfolding owned chain
   killed {d} {d'} {d''} {n} {s} snd u q e f =

@@ -74,23 +74,26 @@ returns-then-is_some c = refuses _ _ _ (at_name _ _ _ c.requires.0 c.if-checked-
     arith)
 
 pub any_taken-requires : goal.any_taken-requires
-any_taken-requires c = (checked-room _ _ (checked _ _ c.requires.0 c.if-checked-ne0.false), slice-listed c.in-Some.ensures.written.listed
-    (written-fits _ _ _ c.in-Some.ensures.written c.whole.array_long))
+any_taken-requires c = (
+  checked-room _ _ (checked _ _ c.requires.0 c.if-checked-ne0.false),
+  slice-listed c.in-Some.ensures.written.listed
+      (written-fits _ _ _ c.in-Some.ensures.written c.whole.array_long),
+)
 
 pub returns-then-any_taken : goal.returns-then-any_taken
 returns-then-any_taken c = refuses _ _ _ (at-taken _ _ _ c.requires.0 c.if-checked-ne0.false (is-true c.is_slot.ensures c.if-not-is_slot.false) (sym
     c.flag.ensures ∙ c.if-flag.false) (sym c.flag-2.ensures ∙ c.if-flag-2.false) (sym c.in-Some.ensures.answer)
     (sym (name_told _ _ _ c.name_of-name.ensures c.find.ensures) ∙ sym c.is_some.ensures ∙ c.if-is_some.false)
-        (sym (taken_is _ _ _ c.in-Some.ensures.written (written-fits _ _ _ c.in-Some.ensures.written c.whole.array_long)) ∙ sym c.any_taken.ensures ∙
-            c.if-any_taken.true)) (λ z. omega arith)
+    (sym (taken_is _ _ _ c.in-Some.ensures.written (written-fits _ _ _ c.in-Some.ensures.written c.whole.array_long)) ∙ sym c.any_taken.ensures ∙
+    c.if-any_taken.true)) (λ z. omega arith)
 
 pub returns : goal.returns
 returns c = record {
   number_is = at_none _ _ _ c.requires.0 c.if-checked-ne0.false (is-true c.is_slot.ensures c.if-not-is_slot.false) (sym c.flag.ensures ∙
       c.if-flag.false) (sym c.flag-2.ensures ∙ c.if-flag-2.false) (sym c.in-Some.ensures.answer)
       (sym (name_told _ _ _ c.name_of-name.ensures c.find.ensures) ∙ sym c.is_some.ensures ∙ c.if-is_some.false)
-          (sym (taken_is _ _ _ c.in-Some.ensures.written (written-fits _ _ _ c.in-Some.ensures.written c.whole.array_long)) ∙
-              sym c.any_taken.ensures ∙ c.if-any_taken.false);
+      (sym (taken_is _ _ _ c.in-Some.ensures.written (written-fits _ _ _ c.in-Some.ensures.written c.whole.array_long)) ∙
+      sym c.any_taken.ensures ∙ c.if-any_taken.false);
   room = checked-room _ _ (checked _ _ c.requires.0 c.if-checked-ne0.false);
   written = c.in-Some.ensures.written;
   hash-is = c.hash.ensures.is ∙ ap hash c.name_of-name.ensures;

@@ -172,7 +172,7 @@ returns-then-c-len c =
     let least = c.min-end in
     let a = c.args in
     matches-stop _ _ _ _ _ _ _ _ _ l.i part.result (least-first _ _ least.ensures) (least-second _ _ least.ensures)
-        (omega (arith, part.ensures.3, loop-test.true))
+    (omega (arith, part.ensures.3, loop-test.true))
     (run_is a.g a.first.now a.s l.i part.result reach.ensures.0 reach.ensures.1
     (omega (arith, part.ensures.1, reach.ensures.2)))
     (run_is a.h a.second.now a.t l.i part.result reach2.ensures.0 reach2.ensures.1

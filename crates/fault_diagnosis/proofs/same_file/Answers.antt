@@ -25,9 +25,13 @@ same_name-requires c = let a = c.args in let t : is_slot a.g a.image.now a.q ≡
 pub returns-then-primary : goal.returns-then-primary
 unfolding same_file all any
 returns-then-primary c = let a = c.args in let t : is_slot a.g a.image.now a.q ≡ true = grind (arith, common_steps) in
-    let w = entry-fits a.g a.image.now a.q c.requires.0 (slot-of _ _ _ t) in grind
-        (arith, common_steps, name-at a.g a.image.now a.name.now a.q (omega arith), ap
-            (λ (x : ℕ). same (take 11 (drop x a.image.now)) a.name.now) c.name_at.ensures)
+    let w = entry-fits a.g a.image.now a.q c.requires.0 (slot-of _ _ _ t) in grind (
+      arith,
+      common_steps,
+      name-at a.g a.image.now a.name.now a.q (omega arith),
+      ap
+          (λ (x : ℕ). same (take 11 (drop x a.image.now)) a.name.now) c.name_at.ensures,
+    )
 
 pub returns-else-primary : goal.returns-else-primary
 unfolding same_file all any

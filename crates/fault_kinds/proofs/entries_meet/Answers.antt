@@ -9,4 +9,4 @@ pub returns : goal.returns
 unfolding entries_meet
 returns c = let a = c.args in
     some-range (run_meets a.g a.image.now a.s a.t) c.any.ensures.ran (omega (arith, c.runs-n.ensures.is)) (λ x q k. search (rules, tests))
-        (λ x q k. search (rules, tests))
+    (λ x q k. search (rules, tests))

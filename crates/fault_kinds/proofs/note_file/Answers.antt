@@ -17,7 +17,7 @@ note_walk-requires c = let a = c.args in let t : is_slot a.g a.image.now a.p ≡
 pub returns-then-primary : goal.returns-then-primary
 returns-then-primary c = let a = c.args in let t : is_slot a.g a.image.now a.p ≡ true = grind (arith, common_steps) in
     let u : in_use_primary a.g a.image.now a.p ≡ true = grind (arith, common_steps) in
-        walking-step _ _ _ c.requires.1 t u c.requires.2 c.note_walk.ensures c.requires.3
+    walking-step _ _ _ c.requires.1 t u c.requires.2 c.note_walk.ensures c.requires.3
 
 pub returns-else-is_slot : goal.returns-else-is_slot
 returns-else-is_slot c = let p = c.requires in elim c.else-is_slot.branch [

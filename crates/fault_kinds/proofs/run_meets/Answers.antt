@@ -9,4 +9,4 @@ pub returns : goal.returns
 unfolding run_meets
 returns c = let a = c.args in
     some-range (runs_meet a.g a.image.now a.s a.k a.t) c.any.ensures.ran (omega (arith, c.runs-n.ensures.is)) (λ x q k. search (rules, tests))
-        (λ x q k. search (rules, tests))
+    (λ x q k. search (rules, tests))

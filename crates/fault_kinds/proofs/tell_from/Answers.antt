@@ -15,8 +15,11 @@ pub field-x-requires : goal.field-x-requires
 field-x-requires c = (c.requires.0, slot-of _ _ _ (is-true c.is_slot.ensures c.if-is_slot.true), omega arith)
 
 pub tally-t-requires : goal.tally-t-requires
-tally-t-requires c = (c.requires.0, leads-to _ _ _ (is-true c.is_slot.ensures c.if-is_slot.true) c.field-x.ensures.is
-    (is-true c.hands_on.ensures c.if-hands_on.true) (is-true c.walked.ensures c.if-walked.true))
+tally-t-requires c = (
+  c.requires.0,
+  leads-to _ _ _ (is-true c.is_slot.ensures c.if-is_slot.true) c.field-x.ensures.is
+      (is-true c.hands_on.ensures c.if-hands_on.true) (is-true c.walked.ensures c.if-walked.true),
+)
 
 pub returns-then-walked : goal.returns-then-walked
 returns-then-walked c = let a = c.args in subst (λ (l : List ℕ). Leading a.g a.image.now (a.b + 1) l) (sym c.tell.ensures)

@@ -110,7 +110,7 @@ loop-left-preserved c = turn-new _ _ _
     c.loop-left.invariant c.loop-left-test.true
     (turn-shut _ _ _ c.loop-left.invariant (c.further-m.ensures.none c.loop-left-test.true (let z = c.if-m-gt0.false in omega arith))) c.if-runs-lt-PAIRS.false
     (turn-picked _ _ _ c.loop-left.invariant c.loop-left-test.true c.choose-c.ensures) c.in-Some.ensures.0
-        (let z = c.in-Some.ensures.1 in λ q. omega (arith, q))
+    (let z = c.in-Some.ensures.1 in λ q. omega (arith, q))
     c.put_extension.ensures c.put_pair-in-loop-left.ensures
 
 pub shape_of-image : goal.shape_of-image

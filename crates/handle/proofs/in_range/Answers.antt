@@ -10,7 +10,7 @@ unfolding in_range
 returns-then-good_length c = elim c.if-h-highest.branch [
   | then-h-highest w ↦
       rw (← c.highest.ensures.is) (sym (all_yes (le-leb _ _ w.if-h-highest.true) _ ∙ all_yes
-          (sym w.good_length.ensures ∙ sym w.value-is ∙ c.if-good_length.true) _ ∙ all_one _))
+      (sym w.good_length.ensures ∙ sym w.value-is ∙ c.if-good_length.true) _ ∙ all_one _))
   | else-h-highest w ↦ not-both c.if-good_length.true (w.value-is ∙ lt-leb _ _ w.if-h-highest.false)
 ]
 
@@ -19,6 +19,6 @@ unfolding in_range
 returns-else-good_length c = elim c.if-h-highest.branch [
   | then-h-highest w ↦
       rw (← c.highest.ensures.is) (c.if-good_length.false ∙ sym (all_yes (le-leb _ _ w.if-h-highest.true) _ ∙ all-no
-          (sym w.good_length.ensures ∙ sym w.value-is ∙ c.if-good_length.false) _))
+      (sym w.good_length.ensures ∙ sym w.value-is ∙ c.if-good_length.false) _))
   | else-h-highest w ↦ rw (← c.highest.ensures.is) (c.if-good_length.false ∙ sym (all-no (lt-leb _ _ w.if-h-highest.false) _))
 ]

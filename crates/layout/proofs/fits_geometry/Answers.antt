@@ -33,14 +33,14 @@ returns-then-g-w-ne0 c =
     elim c.then-g-w-ne0.branch [
       | then-g-w-ne0-via-then-g-w-ne0 w ↦
           fits-start _ _ z c.if-g-lt1.false c.if-g-gt-MOST_BLOCKS.false c.if-g-lt1-2.false c.if-g-gt-MOST_UNITS.false c.granule_sectors-w.ensures.is
-              w.if-g-w-ne0.true
+          w.if-g-w-ne0.true
       | then-g-w-ne0-via-else-g-w-ne0+then-image-bytes w ↦
           fits-length _ _ z c.if-g-lt1.false c.if-g-gt-MOST_BLOCKS.false c.if-g-lt1-2.false c.if-g-gt-MOST_UNITS.false c.granule_sectors-w.ensures.is
-              w.if-g-w-ne0.false
+          w.if-g-w-ne0.false
           c.granules-n.ensures.0 c.granule_bytes.ensures.is w.if-image-bytes.true
       | then-g-w-ne0-via-else-g-w-ne0+else-image-bytes+then-most-g w ↦
           fits-beyond _ _ z c.if-g-lt1.false c.if-g-gt-MOST_BLOCKS.false c.if-g-lt1-2.false c.if-g-gt-MOST_UNITS.false c.granule_sectors-w.ensures.is
-              w.if-g-w-ne0.false
+          w.if-g-w-ne0.false
           c.granules-n.ensures.0 c.granule_bytes.ensures.is w.if-image-bytes.false c.granules-n.ensures.1
           (let k = c.sector_numbers-most.ensures.is in let h = w.if-most-g.true in omega (arith, c.granule_sectors-w.ensures.is))
     ]

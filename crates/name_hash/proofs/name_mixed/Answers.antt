@@ -14,7 +14,7 @@ returns-then-four_blanks c = let turned3 = c.turned-h-3 in let turned2 = c.turne
     let w3 = both-more (get_or n 2 0) (get_or n 10 0) w2 (k 2) (k 10) turned3.ensures in
     let w4 = one_more (get_or n 3 0) w3 (k 3) c.turned-h-4.ensures in
     ap (λ (j : ℕ). bit_xor j 0x1e) c.rotate_right.ensures ∙ short-last (get_or n 8 0) (get_or n 9 0) (get_or n 10 0) (k 8) (k 9) (k 10) w4 ∙
-        short-bytes n p (sym c.four_blanks.ensures ∙ c.if-four_blanks.true)
+    short-bytes n p (sym c.four_blanks.ensures ∙ c.if-four_blanks.true)
 
 pub returns : goal.returns
 returns c = let turned6 = c.turned-h-6 in let turned5 = c.turned-h-5 in let turned4 = c.turned-h-4 in let turned3 = c.turned-h-3 in

@@ -31,7 +31,7 @@ overflow_add-h c = let a = c.args in let the-read-ranged = c.read_ranged-ranged 
 pub returns-then-size_of-h : goal.returns-then-size_of-h
 returns-then-size_of-h c = let ten : 10 ≡ 0 → ⊥ = λ q. omega (arith, q) in
     let on = reading-then _ _ _ _ _ c.read_ranged-ranged.ensures refl c.in_ok-admits_reading.ensures ∙ first-hit
-        (ap (λ (k : ℕ). ltb k (c.args.h.at + c.args.n)) (sym c.size_of.ensures.is) ∙ lt-ltb _ _ c.if-size_of-h.true) 10 _ in
+    (ap (λ (k : ℕ). ltb k (c.args.h.at + c.args.n)) (sym c.size_of.ensures.is) ∙ lt-ltb _ _ c.if-size_of-h.true) 10 _ in
     let t = tells _ (check-none _ _ _ c.requires c.in_ok-admits_reading.ensures) on ten in (c.unplaced.ensures ∙ t.0, t.1)
 
 pub returns : goal.returns

@@ -24,7 +24,7 @@ word-requires c = let a = c.args in let p = passed a.g a.image.now a.h c.sector_
 pub returns-then-word-k : goal.returns-then-word-k
 returns-then-word-k c = let ten : 10 ≡ 0 → ⊥ = λ q. omega (arith, q) in
     let on = reading-then _ _ _ _ _ c.sector_ranged-ranged.ensures refl c.in_ok-admits_reading.ensures ∙ first-hit
-        (ap (λ (n : ℕ). leb n c.args.k) (sym c.word.ensures.is) ∙ le-leb _ _ c.if-word-k.true) 10 _ in
+    (ap (λ (n : ℕ). leb n c.args.k) (sym c.word.ensures.is) ∙ le-leb _ _ c.if-word-k.true) 10 _ in
     let t = tells _ (check-none _ _ _ c.requires c.in_ok-admits_reading.ensures) on ten in (c.unplaced.ensures ∙ t.0, t.1)
 
 pub returns : goal.returns

@@ -13,8 +13,7 @@ loop-s-init c = (c.rows.invariant.0, none_kept _ _ c.rows.invariant.1 c.kept_col
 
 pub loop-s-preserved : goal.loop-s-preserved
 loop-s-preserved c =
-    let a = c.args in
-    (
+    let a = c.args in (
       c.loop-s.invariant.0,
       none-step (free_slot a.g a.image.now) _ c.loop-s.invariant.1
           (slot-used a.g a.image.now _ (λ z. c.if-hit-eq0.false (c.hit.ensures.is ∙ z))) (omega arith),
