@@ -1,11 +1,11 @@
 -- What the stores of a growth leave.
 use mathlib.Core.Path.{◌≡◌, refl, ap, ap₂, sym, ◌∙◌}
 use mathlib.Core.Bool.{Bool, true, false, not, cond}
-use mathlib.Core.List.{List, [], ◌++◌, append_assoc, append-nil}
-use Prim.Native.Nat.{ℕ, ◌+◌, ◌*◌, ◌≤◌}
+use mathlib.Core.List.{List, ◌++◌}
+use Prim.Native.Nat.{ℕ, ◌+◌, ◌-◌, ◌*◌, ◌≤◌}
 use native.Mathlib.Omega.{arith}
-use lib.ListN.{length, set, take, drop, length-set, length-drop, take-append-drop}
-use lib.Seq.{sets, length-sets, sets-eq, length-take-le, drop-length, take_all, drop-drop}
+use lib.ListN.{length, set, take, drop, length-set, take-append-drop}
+use lib.Seq.{sets, length-sets, drop-drop}
 use Rattle.meaning.specs.Layout.{byte, entry_at, hit_at, hit, set_field}
 use Rattle.meaning.specs.Entries.{set_link}
 use Rattle.meaning.specs.Growth.{new_extension, with_extension}
@@ -35,21 +35,16 @@ pub writes-yes : (b : Bool) → not b ≡ false → b ≡ true
 writes-yes true e = refl
 writes-yes false e = sym e
 
--- The GAT put back as it was
-pub put_back : (g : Geometry) (d d₂ z : List ℕ) {d₃ s : List ℕ} {at : ℕ} → OnlyGat g d d₂ → 256 * g.start + 192 ≤ length d → length z ≡ 192
-    → at ≡ 256 * g.start + 0 → s ≡ sets z 0 (take 192 (drop at d)) → d₃ ≡ sets d₂ at (take 192 (drop 0 s)) → d₃ ≡ d
-put_back g d d₂ z {d₃} {s} {at} o h lz t e q =
-    let A = 256 * g.start in
-    let a : at ≡ A = omega arith in
-    let W : List ℕ = take 192 (drop A d) in
-    let lv : length W ≡ 192 = length-take-le 192 (drop A d) (omega (arith, length-drop A d)) in
-    let s₁ : sets z 0 W ≡ W ++ drop (0 + length W) z = sets-eq W z 0 (omega arith) in
-    let s₂ : drop (0 + length W) z ≡ [] = ap (λ (n : ℕ). drop n z) (let y : 0 + length W ≡ length z = omega arith in y) ∙ drop-length z in
-    let s₃ : s ≡ W = e ∙ ap (λ (i : ℕ). sets z 0 (take 192 (drop i d))) a ∙ s₁ ∙ ap (λ (x : List ℕ). W ++ x) s₂ ∙ append-nil W in
-    let s₄ : take 192 (drop 0 s) ≡ W = ap (λ (x : List ℕ). take 192 x) s₃ ∙ take_all 192 W (omega arith) in
-    let c₁ : sets d₂ A W ≡ take A d₂ ++ W ++ drop (A + length W) d₂ = sets-eq W d₂ A (omega (arith, o.long)) in
-    let c₂ : drop (A + length W) d₂ ≡ drop (A + 192) d = ap (λ (n : ℕ). drop (A + n) d₂) lv ∙ o.behind in
-    let c₃ : take A d₂ ++ W ++ drop (A + length W) d₂ ≡ take A d ++ W ++ drop (A + 192) d = ap₂ (λ (x y : List ℕ). x ++ W ++ y) o.below c₂ in
-    let c₄ : W ++ drop (A + 192) d ≡ drop A d = ap (λ (x : List ℕ). W ++ x) (sym (drop-drop 192 A d)) ∙ take-append-drop 192 (drop A d) in
-    q ∙ ap₂ (λ (i : ℕ) (x : List ℕ). sets d₂ i x) a s₄ ∙ c₁ ∙ c₃ ∙ append_assoc (take A d) W (drop (A + 192) d) ∙ ap (λ (x : List ℕ). take A d ++ x) c₄ ∙
-    take-append-drop A d
+-- The GAT put back as it was: s is what was kept of it, d₃ the image with s in its place
+pub put_back : (g : Geometry) (d d₂ : List ℕ) {d₃ s : List ℕ} {at : ℕ} → OnlyGat g d d₂ → 256 * g.start + 192 ≤ length d → at ≡ 256 * g.start + 0
+    → s ≡ take (at + 192 - at) (drop at d) → d₃ ≡ take at d₂ ++ (s ++ drop (at + 192 - at) (drop at d₂)) → d₃ ≡ d
+put_back g d d₂ {d₃} {s} {at} o h t e q =
+    let n : at + 192 - at ≡ 192 = omega arith in
+    let a : at ≡ 256 * g.start = omega arith in
+    let kept : s ≡ take 192 (drop at d) = e ∙ ap (λ (m : ℕ). take m (drop at d)) n in
+    let below : take at d₂ ≡ take at d = ap (λ (i : ℕ). take i d₂) a ∙ o.below ∙ ap (λ (i : ℕ). take i d) (sym a) in
+    let behind : drop 192 (drop at d₂) ≡ drop 192 (drop at d) =
+    drop-drop 192 at d₂ ∙ ap (λ (i : ℕ). drop (i + 192) d₂) a ∙ o.behind ∙ ap (λ (i : ℕ). drop (i + 192) d) (sym a) ∙ sym (drop-drop 192 at d) in
+    q ∙ ap (λ (m : ℕ). take at d₂ ++ (s ++ drop m (drop at d₂))) n ∙ ap₂ (λ (x y : List ℕ). x ++ (y ++ drop 192 (drop at d₂))) below kept
+    ∙ ap (λ (y : List ℕ). take at d ++ (take 192 (drop at d) ++ y)) behind ∙ ap (λ (y : List ℕ). take at d ++ y) (take-append-drop 192 (drop at d)) ∙
+    take-append-drop at d

@@ -213,9 +213,9 @@ fn too_few_slots(image: &mut [u8], g: Geometry, p: usize, e: usize, k: usize, lo
     }
     let mut gat = [0u8; 192];
     let at = layout::gat_at(image, g, 0);
-    copy::put_part(&mut gat, 0, image, at, 192);
+    gat.copy_from_slice(&image[at..at + 192]);
     let r = take_granules(image, g, p, e, k, lowest, false);
-    copy::put_part(image, at, &gat, 0, 192);
+    image[at..at + 192].copy_from_slice(&gat);
     r
 }
 

@@ -1,11 +1,13 @@
 use native.Mathlib.Omega.{arith}
-use mathlib.Core.Path.{refl}
+use mathlib.Core.Path.{refl, ap}
+use mathlib.Core.List.{List, ◌++◌}
+use Prim.Native.Nat.{ℕ, ◌+◌, ◌-◌}
+use lib.ListN.{take, drop}
 use Rattle.passed.proofs.Ready.{walks}
 use Rattle.growth.proofs.Roomy.{pairs-left, lengthening}
 use Rattle.growth.proofs.Growing.{tail-slot}
 use Rattle.growth.proofs.Whole.{on-paper, gat-inside}
 use Rattle.growth.proofs.Put.{put_back}
-use borrow.Author.Rules.{rules}
 use Rattle.growth.proofs.too_few_slots.Goals as goal
 
 pub runs-pairs-requires : goal.runs-pairs-requires
@@ -43,21 +45,19 @@ gat_at-at-requires c = let p = c.requires in omega (
       (walks _ _ _ p.0).0.room,
 )
 
-pub put_part-requires : goal.put_part-requires
-put_part-requires c = let p = c.requires in let at = c.gat_at-at.ensures in (omega arith, omega (arith, gat-inside _ _ (walks _ _ _ p.0).0.room))
-
 pub take_granules-r-requires : goal.take_granules-r-requires
 take_granules-r-requires c = let a = c.args in let p = c.requires in on-paper _ _ _ a.lowest p.0 p.1 p.2
 
-pub put_part-requires-2 : goal.put_part-requires-2
-put_part-requires-2 c = let p = c.requires in let at = c.gat_at-at.ensures in let b = gat-inside _ _ (walks _ _ _ p.0).0.room in
-    let e = (c.take_granules-r.ensures.marked refl).long in (omega arith, search rules)
+pub slice_bounds-copy_from_slice-end : goal.slice_bounds-copy_from_slice-end
+slice_bounds-copy_from_slice-end c = let p = c.requires in let at = c.gat_at-at.ensures in omega (arith, gat-inside _ _ (walks _ _ _ p.0).0.room)
+
+pub slice_bounds-copy_from_slice-end-2 : goal.slice_bounds-copy_from_slice-end-2
+slice_bounds-copy_from_slice-end-2 c = let p = c.requires in let at = c.gat_at-at.ensures in omega (arith, gat-inside _ _ (walks _ _ _ p.0).0.room)
 
 pub returns : goal.returns
 returns c = let p = c.requires in let t = c.take_granules-r.ensures in (
   t.number,
-  put_back _ _ _ _ (t.marked refl) (gat-inside _ _ (walks _ _ _ p.0).0.room) refl
-      c.gat_at-at.ensures
-      c.put_part.ensures
-      c.put_part-2.ensures,
+  put_back _ _ _ (t.marked refl) (gat-inside _ _ (walks _ _ _ p.0).0.room) c.gat_at-at.ensures c.copy_from_slice.ensures.after
+      (ap (λ (s : List ℕ). take c.gat_at-at.result c.take_granules-r.new.image ++ (s ++ drop (c.gat_at-at.result + 192 - c.gat_at-at.result)
+      (drop c.gat_at-at.result c.take_granules-r.new.image))) c.copy_from_slice-2.ensures.after),
 )
