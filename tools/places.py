@@ -22,6 +22,7 @@ LINES = {
     '1 a number handed out, 0 for no refusal': r'^(pub )?fn .*-> u8$|^\) -> u8$',
     '1 a number for none': r'\b(return|==|!=|found =|number|at:) (256|NO_SLOT)\b(?! [*+])|\b(NO_SLOT|NO_PLACE|NO_DRIVE|NOWHERE)\b',
     '1 a number tested for a refusal': r'\b(number|refused|\.number) [!=]= 0\b',
+    "1 a refusal's number written out": r'\b(unplaced|placed|carried|refused|Err)\((checked, )?\d+\b',
     '3 a loop that counts by hand': r"^\s*('\w+: )?while ",
     '4 a byte made a number by hand': r'\bwide\(',
     '4 a number cut to bytes by hand': r'/ (256|0x100+|65536)\b.* as u8|% 256\) as u8',
