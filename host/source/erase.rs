@@ -1,7 +1,7 @@
 //! Leaves the contracts out of a file of Rattle. What is left is Rust, line by line as it stands in the file.
 //!
-//! Six kinds of lines are left out, whole lines only: `ghost use` items; ghost fields; `requires` clauses; `ensures` clauses;
-//! what is said to the prover, the attributes `tactic` and `cycle` and the statement `prove!`; and `#[unsafe(no_mangle)]`, which
+//! Five kinds of lines are left out, whole lines only: `ghost use` items; `requires` clauses; `ensures` clauses; what is
+//! said to the prover, the attributes `tactic` and `cycle` and the statement `prove!`; and `#[unsafe(no_mangle)]`, which
 //! goes to the shim of its function. An empty line takes the place of each, so that a line has its number in both files.
 //! Nothing is changed and nothing is added. Whatever is not known here is an error that names file and line.
 
@@ -89,9 +89,6 @@ const UNKNOWN: &[&str] = &[
     "i128",
     "where",
 ];
-
-/// The traits of which an `impl` is known: a conversion.
-const TRAITS: &[&str] = &["From"];
 
 fn is_word(character: char) -> bool {
     character.is_ascii_alphanumeric() || character == '_'
@@ -227,7 +224,8 @@ impl<'a> File<'a> {
                 "use" | "const" | "type" if plain => drop(self.through(word, ";")?),
                 "struct" | "enum" if !marked.exported && !marked.told && inner.is_none() => self.declared()?,
                 "impl" if word.from == token.from && inner.is_none() => {
-                    let brace = self.implemented()?;
+                    self.expect_name()?;
+                    let brace = self.expect_text("{")?;
                     self.items(Some(brace.from))?;
                 }
                 "extern" if marked.exported && !marked.derived && start.text == "pub" && inner.is_none() => {
@@ -268,7 +266,7 @@ impl<'a> File<'a> {
             }
             "derive" => {
                 for token in self.through(open, "]")? {
-                    if !["(", ",", ")", "Clone", "Copy", "PartialEq", "Eq", "PartialOrd", "Ord"].contains(&token.text) {
+                    if !["(", ",", ")", "Clone", "Copy", "PartialEq", "Eq"].contains(&token.text) {
                         return self.unknown(token.from, &format!("a derive of `{}` is not known", token.text));
                     }
                 }
@@ -308,88 +306,17 @@ impl<'a> File<'a> {
         self.leave_out(ghost.from, self.at)
     }
 
-    /// The head of an `impl`, up to its brace: of a type's own functions, or of one of the TRAITS.
-    fn implemented(&mut self) -> Result<Token<'a>, String> {
-        let mut token = self.parameters_of_types()?;
-        let name = token;
-        token = self.parameters_of_types()?;
-        if token.text == "for" {
-            if !TRAITS.contains(&name.text) {
-                return self.unknown(name.from, &format!("an `impl` of `{}` is not known", name.text));
-            }
-            self.expect_name()?;
-            token = self.parameters_of_types()?;
-        }
-        if token.text != "{" {
-            return self.unknown(token.from, &format!("`{}` is not known in the head of an `impl`", token.text));
-        }
-        Ok(token)
-    }
-
-    /// What stands between `<` and `>`, if anything does; the token behind it.
-    fn parameters_of_types(&mut self) -> Result<Token<'a>, String> {
-        let open = self.expect()?;
-        if open.text != "<" {
-            return Ok(open);
-        }
-        let (mut depth, mut last) = (1, "");
-        while depth > 0 {
-            let token = self.expect()?;
-            match token.text {
-                "<" => depth += 1,
-                ">" if last != "-" => depth -= 1,
-                word if word == ";" || word == "{" || UNKNOWN.contains(&word) => {
-                    return self.unknown(token.from, &format!("`{word}` is not known here"));
-                }
-                _ => {}
-            }
-            last = token.text;
-        }
-        self.expect()
-    }
-
-    /// `struct` or `enum`: fields or variants of plain data. A ghost field of a struct is left out, on lines of its own.
+    /// `struct` or `enum`: fields or variants of plain data.
     fn declared(&mut self) -> Result<(), String> {
         self.expect_name()?;
-        let open = self.parameters_of_types()?;
+        let open = self.expect()?;
         match open.text {
-            "{" => self.fields()?,
+            "{" => drop(self.through(open, "}")?),
             "(" => {
                 self.through(open, ")")?;
                 self.expect_text(";")?;
             }
             other => return self.unknown(open.from, &format!("`{other}` behind a type's name is not known")),
-        }
-        Ok(())
-    }
-
-    /// The fields or variants between braces.
-    fn fields(&mut self) -> Result<(), String> {
-        let (mut depth, mut start) = (1, self.at);
-        while depth > 0 {
-            let token = self.expect()?;
-            match token.text {
-                "(" | "[" | "{" => depth += 1,
-                ")" | "]" | "}" => depth -= 1,
-                "pub" => {
-                    start = token.from;
-                    continue;
-                }
-                "ghost" if depth == 1 => {
-                    let from = if self.text[start..token.from].trim() == "pub" { start } else { token.from };
-                    self.expect_name()?;
-                    self.expect_text(":")?;
-                    let brace = self.expect_text("{")?;
-                    self.braced(brace)?;
-                    let end = self.expect_text(",")?;
-                    self.leave_out(from, end.from + 1)?;
-                }
-                word if word == "#" || UNKNOWN.contains(&word) => {
-                    return self.unknown(token.from, &format!("`{word}` is not known here"));
-                }
-                _ => {}
-            }
-            start = self.at;
         }
         Ok(())
     }
@@ -414,15 +341,11 @@ impl<'a> File<'a> {
                     self.proved(token)?;
                     continue;
                 }
-                "requires" | "ensures" if tokens.last().map_or(true, |last: &Token| last.text != ".") => {
-                    self.clause(token)?;
-                    continue;
-                }
                 ")" | "]" | "}" if open.pop() != Some(token.text) => {
                     return self.unknown(token.from, &format!("`{}` closes nothing", token.text));
                 }
-                // Rattle's std has what core has under these names.
-                "std" if ["::cmp::", "::convert::"].iter().any(|of_core| self.text[self.at..].starts_with(of_core)) => {}
+                // Rattle's std has what core has under this name.
+                "std" if self.text[self.at..].starts_with("::cmp::") => {}
                 word if word == "#" || UNKNOWN.contains(&word) => {
                     return self.unknown(token.from, &format!("`{word}` is not known here"));
                 }
@@ -444,7 +367,10 @@ impl<'a> File<'a> {
     /// A function from its name on: parameters, answer, clauses, body.
     fn function(&mut self, exported: bool) -> Result<(), String> {
         let name = self.expect_name()?;
-        let open = self.parameters_of_types()?;
+        let mut open = self.expect()?;
+        while open.text == "<" || open.text == "," || open.text == ">" || open.text.starts_with('\'') {
+            open = self.expect()?;
+        }
         if open.text != "(" {
             return self.unknown(open.from, &format!("`{}` is not known before the parameters", open.text));
         }
@@ -495,12 +421,6 @@ impl<'a> File<'a> {
         if brace.text != "{" {
             return self.unknown(brace.from, &format!("`{}` is not known before a clause's text", brace.text));
         }
-        self.braced(brace)?;
-        self.leave_out(word.from, self.at)
-    }
-
-    /// Passes over a text in braces that is not Rust, from its brace on.
-    fn braced(&mut self, brace: Token) -> Result<(), String> {
         let mut depth = 0;
         for (at, character) in self.text[brace.from..].char_indices() {
             match character {
@@ -514,10 +434,10 @@ impl<'a> File<'a> {
             }
             if depth == 0 {
                 self.at = brace.from + at + 1;
-                return Ok(());
+                return self.leave_out(word.from, self.at);
             }
         }
-        self.unknown(brace.from, "this clause is not closed")
+        self.unknown(word.from, "this clause is not closed")
     }
 
     /// The names and types of an export's parameters.
