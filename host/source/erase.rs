@@ -1,9 +1,10 @@
 //! Leaves the contracts out of a file of Rattle. What is left is Rust, line by line as it stands in the file.
 //!
-//! Five kinds of lines are left out, whole lines only: `ghost use` items; `requires` clauses; `ensures` clauses; what is
-//! said to the prover, the attributes `tactic` and `cycle` and the statement `prove!`; and `#[unsafe(no_mangle)]`, which
-//! goes to the shim of its function. An empty line takes the place of each, so that a line has its number in both files.
-//! Nothing is changed and nothing is added. Whatever is not known here is an error that names file and line.
+//! Six kinds of lines are left out, whole lines only: `ghost use` items; `requires` clauses; `ensures` clauses; the ghost
+//! fields of a struct; what is said to the prover, the attributes `tactic` and `cycle` and the statement `prove!`; and
+//! `#[unsafe(no_mangle)]`, which goes to the shim of its function. An empty line takes the place of each, so that a line
+//! has its number in both files. Nothing is changed and nothing is added. Whatever is not known here is an error that
+//! names file and line.
 
 use std::fmt::Write;
 
@@ -60,7 +61,7 @@ struct File<'a> {
 #[derive(Default)]
 struct Marked {
     exported: bool,
-    /// For the prover, of a function.
+    /// For the prover or the compiler, of a function.
     told: bool,
     derived: bool,
 }
@@ -222,9 +223,11 @@ impl<'a> File<'a> {
             match word.text {
                 "ghost" if word.from == token.from && inner.is_none() => self.ghost_use(word)?,
                 "use" | "const" | "type" if plain => drop(self.through(word, ";")?),
-                "struct" | "enum" if !marked.exported && !marked.told && inner.is_none() => self.declared()?,
+                "struct" | "enum" if !marked.exported && !marked.told && inner.is_none() => self.declared(word)?,
                 "impl" if word.from == token.from && inner.is_none() => {
+                    self.lifetimes()?;
                     self.expect_name()?;
+                    self.lifetimes()?;
                     let brace = self.expect_text("{")?;
                     self.items(Some(brace.from))?;
                 }
@@ -247,7 +250,7 @@ impl<'a> File<'a> {
         self.bracketed(from)
     }
 
-    /// `#[..]`, from its `#` on. A derive stays.
+    /// `#[..]`, from its `#` on. A derive stays, and so does `#[inline]` of a function.
     fn attribute(&mut self, from: Token, marked: &mut Marked) -> Result<(), String> {
         let open = self.expect_text("[")?;
         let word = self.expect()?;
@@ -271,6 +274,10 @@ impl<'a> File<'a> {
                     }
                 }
                 marked.derived = true;
+            }
+            "inline" => {
+                self.expect_text("]")?;
+                marked.told = true;
             }
             other => return self.unknown(word.from, &format!("the attribute `{other}` is not known")),
         }
@@ -306,17 +313,54 @@ impl<'a> File<'a> {
         self.leave_out(ghost.from, self.at)
     }
 
-    /// `struct` or `enum`: fields or variants of plain data.
-    fn declared(&mut self) -> Result<(), String> {
+    /// `struct` or `enum`, behind that word: fields or variants of plain data.
+    fn declared(&mut self, word: Token) -> Result<(), String> {
         self.expect_name()?;
+        self.lifetimes()?;
         let open = self.expect()?;
         match open.text {
+            "{" if word.text == "struct" => self.fields()?,
             "{" => drop(self.through(open, "}")?),
             "(" => {
                 self.through(open, ")")?;
                 self.expect_text(";")?;
             }
             other => return self.unknown(open.from, &format!("`{other}` behind a type's name is not known")),
+        }
+        Ok(())
+    }
+
+    /// The fields of a struct, behind its brace. Each ends with a comma.
+    fn fields(&mut self) -> Result<(), String> {
+        loop {
+            let start = self.expect()?;
+            if start.text == "}" {
+                return Ok(());
+            }
+            let word = if start.text == "pub" { self.expect()? } else { start };
+            if word.text == "ghost" {
+                self.expect_name()?;
+                self.expect_text(":")?;
+                let brace = self.expect()?;
+                self.braced(brace)?;
+                let end = self.expect_text(",")?;
+                self.leave_out(start.from, end.from + 1)?;
+            } else {
+                self.at = start.from;
+                self.through(start, ",")?;
+            }
+        }
+    }
+
+    /// The lifetimes right behind a name or `impl`, if there are any.
+    fn lifetimes(&mut self) -> Result<(), String> {
+        if self.text[self.at..].starts_with('<') {
+            let open = self.expect()?;
+            for token in self.through(open, ">")? {
+                if token.text != "," && !token.text.starts_with('\'') {
+                    return self.unknown(token.from, &format!("`{}` is not known among lifetimes", token.text));
+                }
+            }
         }
         Ok(())
     }
@@ -367,13 +411,8 @@ impl<'a> File<'a> {
     /// A function from its name on: parameters, answer, clauses, body.
     fn function(&mut self, exported: bool) -> Result<(), String> {
         let name = self.expect_name()?;
-        let mut open = self.expect()?;
-        while open.text == "<" || open.text == "," || open.text == ">" || open.text.starts_with('\'') {
-            open = self.expect()?;
-        }
-        if open.text != "(" {
-            return self.unknown(open.from, &format!("`{}` is not known before the parameters", open.text));
-        }
+        self.lifetimes()?;
+        let open = self.expect_text("(")?;
         let parameters = self.through(open, ")")?;
         let mut answer = String::new();
         let mut token = self.expect()?;
@@ -411,33 +450,39 @@ impl<'a> File<'a> {
         Ok(())
     }
 
-    /// A clause, with a name or without: its text, in braces, is not Rust. Braces stand in pairs in it, and no comment or
-    /// string, where they might not.
+    /// A clause, with a name or without.
     fn clause(&mut self, word: Token) -> Result<(), String> {
         let mut brace = self.expect()?;
         if brace.text.starts_with(|c: char| c.is_ascii_alphabetic()) {
             brace = self.expect()?;
         }
+        self.braced(brace)?;
+        self.leave_out(word.from, self.at)
+    }
+
+    /// Passes over a text in braces, behind the first, that is not Rust. Braces stand in pairs in it, and no comment or
+    /// string, where they might not.
+    fn braced(&mut self, brace: Token) -> Result<(), String> {
         if brace.text != "{" {
-            return self.unknown(brace.from, &format!("`{}` is not known before a clause's text", brace.text));
+            return self.unknown(brace.from, &format!("`{}` is not known before a text in braces", brace.text));
         }
         let mut depth = 0;
         for (at, character) in self.text[brace.from..].char_indices() {
             match character {
                 '{' => depth += 1,
                 '}' => depth -= 1,
-                '"' => return self.unknown(brace.from + at, "a string in a clause is not known"),
+                '"' => return self.unknown(brace.from + at, "a string in such a text is not known"),
                 '-' if self.text[brace.from + at..].starts_with("--") => {
-                    return self.unknown(brace.from + at, "a comment in a clause is not known");
+                    return self.unknown(brace.from + at, "a comment in such a text is not known");
                 }
                 _ => {}
             }
             if depth == 0 {
                 self.at = brace.from + at + 1;
-                return self.leave_out(word.from, self.at);
+                return Ok(());
             }
         }
-        self.unknown(word.from, "this clause is not closed")
+        self.unknown(brace.from, "this text in braces is not closed")
     }
 
     /// The names and types of an export's parameters.

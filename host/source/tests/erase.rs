@@ -74,25 +74,30 @@ fn together_again() {
     assert!(kept > 4_000 && gone > 800, "{kept} lines left, {gone} left out");
 }
 
-/// What is left out is contracts, what is said to the prover, and the mark that goes to a shim. Looked at by lines alone: a
-/// clause is indented, starts with its word, and goes on as long as its braces are open; nothing that starts so is left. An
-/// attribute for the prover is a line that starts with its word and ends with its bracket. Of attributes only derives stay.
+/// What is left out is contracts, ghost fields, what is said to the prover, and the mark that goes to a shim. Looked at by
+/// lines alone: a clause is indented, starts with its word, and goes on as long as its braces are open, and so does a ghost
+/// field, which ends with a comma; nothing that starts so is left. An attribute for the prover is a line that starts with
+/// its word and ends with its bracket. Of attributes derives stay, and `#[inline]`.
 #[test]
 fn only_contracts_are_left_out() {
-    let starts = |line: &str| {
+    let starts = |line: &str| -> Option<&str> {
         let text = line.trim_start();
-        text.len() < line.len() && ["requires ", "ensures "].iter().any(|word| text.starts_with(word))
+        let begins = |words: &[&str]| text.len() < line.len() && words.iter().any(|word| text.starts_with(word));
+        let field = begins(&["pub ghost ", "ghost "]).then_some("},");
+        field.or(begins(&["requires ", "ensures "]).then_some("}"))
     };
     let depth = |line: &str| line.matches('{').count() as isize - line.matches('}').count() as isize;
     for name in crates() {
-        let (mut open, mut last) = (0, 0);
+        let (mut open, mut end, mut last) = (0, "", 0);
         for (number, line) in left_out(&name) {
             let place = format!("{name}, line {number}: {line}");
             if open > 0 {
                 assert_eq!(number, last + 1, "{place}: a clause is torn");
                 open += depth(&line);
-            } else if starts(&line) {
-                open = depth(&line);
+                assert!(open > 0 || line.ends_with(end), "{place}");
+            } else if let Some(its_end) = starts(&line) {
+                (open, end) = (depth(&line), its_end);
+                assert!(open > 0 || line.ends_with(end), "{place}");
             } else {
                 let ghost = line.starts_with("ghost use ") && line.ends_with(';');
                 let told =
@@ -103,8 +108,9 @@ fn only_contracts_are_left_out() {
         }
         assert_eq!(open, 0, "{name}: the last clause is not whole");
         for line in read(&Path::new(OUT).join(format!("{name}.rs"))).lines() {
-            assert!(!starts(line) && !line.starts_with("ghost "), "{name}: {line}");
-            assert!(!line.trim_start().starts_with('#') || line.starts_with("#[derive("), "{name}: {line}");
+            assert!(starts(line).is_none() && !line.starts_with("ghost "), "{name}: {line}");
+            let stays = line.starts_with("#[derive(") || line.trim_start() == "#[inline]";
+            assert!(!line.trim_start().starts_with('#') || stays, "{name}: {line}");
         }
     }
 }
@@ -204,6 +210,12 @@ fn forms_that_are_known() {
     assert!(left.starts_with(first) && left.ends_with("\n    x\n}\n"), "{left}");
     let types = "#[derive(Clone, Copy)]\npub struct S {\n    a: u8,\n}\nenum E {\n    A,\n    B(u8),\n}\nstruct T(u8, [u8; 3]);\n";
     assert_eq!(out_of(types), Ok(vec![]));
+    let ghosts = "#[derive(Clone, Copy)]\npub struct D<'a> {\n    x: &'a [u8],\n    pub ghost y: { Room x.now },\n    n: [u8; 2],\n    \
+                  ghost z: { { y ≡\n        x },\n        ⊤ },\n}\nstruct T<'a, 'b>(&'a u8, &'b u8);\nimpl<'a> D<'a> {\n    \
+                  fn f(&self)\n        ensures { ⊤ }\n    {\n    }\n}\n";
+    assert_eq!(out_of(ghosts), Ok(vec![4, 6, 7, 8, 13]));
+    let left = erase::erase("x.rt", ghosts).unwrap().left;
+    assert!(left.contains("pub struct D<'a> {\n    x: &'a [u8],\n\n    n: [u8; 2],\n\n\n\n}\n"), "{left}");
     let told = "#![tactic(auto)]\nuse a::{\n    B, C,\n};\n#[tactic(auto, using(crate::proofs::M::x-y), unfolding(z))]\nfn f() {\n    \
                 prove!(x < 2);\n}\n#[cycle(a_b)]\nfn g() {\n}\n";
     assert_eq!(out_of(told), Ok(vec![1, 5, 7, 9]));
@@ -236,7 +248,7 @@ fn forms_that_are_not_known() {
         ("ghost fn f() {\n}\n".into(), 1),
         ("ghost use x.{y\n};\n".into(), 1),
         ("use a::B; ghost use x.{y};\n".into(), 1),
-        ("#[inline]\nfn f() {\n}\n".into(), 1),
+        ("#[cold]\nfn f() {\n}\n".into(), 1),
         ("#[no_mangle]\npub extern \"C\" fn f() {\n}\n".into(), 1),
         ("#[unsafe(no_mangle)]\nfn f() {\n}\n".into(), 2),
         ("#[unsafe(x)]\npub extern \"C\" fn f() {\n}\n".into(), 1),
@@ -251,11 +263,28 @@ fn forms_that_are_not_known() {
         ("extern \"C\" {\n}\n".into(), 1),
         ("mod other;\n".into(), 1),
         ("static X: u8 = 1;\n".into(), 1),
-        ("struct S<'a> {\n    x: &'a u8,\n}\n".into(), 1),
+        ("struct S<T> {\n    x: T,\n}\n".into(), 1),
+        ("struct S<'a {\n    x: &'a u8,\n}\n".into(), 1),
+        ("struct S {\n    x: u8\n}\n".into(), 3),
+        ("struct S {\n    #[cfg(x)]\n    x: u8,\n}\n".into(), 2),
         ("struct S {\n    ghost x { y }\n}\n".into(), 2),
+        ("struct S {\n    ghost x: u8,\n}\n".into(), 2),
+        ("struct S {\n    ghost x: { y }\n}\n".into(), 3),
+        ("struct S {\n    ghost x: { y,\n".into(), 2),
+        ("struct S {\n    ghost x: { y -- }\n    },\n}\n".into(), 2),
+        ("struct S {\n    x: u8, ghost y: { z },\n}\n".into(), 2),
+        ("struct S {\n    pub ghost y: { z }, x: u8,\n}\n".into(), 2),
+        ("struct S {\n    ghost y: {\n        z\n    }, // why\n}\n".into(), 2),
+        ("struct S { ghost x: { y },\n}\n".into(), 1),
+        ("struct S {\n    ghost x: { y }, }\n".into(), 2),
+        ("struct S(u8, ghost x: { y });\n".into(), 1),
+        ("enum E {\n    ghost x: { y },\n}\n".into(), 2),
         ("/* x */\n".into(), 1),
         ("trait T {\n}\n".into(), 1),
         ("impl T for S {\n}\n".into(), 1),
+        ("impl<'a> T for S<'a> {\n}\n".into(), 1),
+        ("impl<T> S<T> {\n}\n".into(), 1),
+        ("fn f<'a: 'b>(x: &'a u8) {\n}\n".into(), 1),
         (f("    std::num::wrapping_add_u8(x, 1)"), 4),
         (f("    unsafe { x }"), 4),
         (f("    x ≡ x"), 4),
