@@ -19,12 +19,12 @@ pub fn allot_checked(image: &mut [u8], g: Geometry, h: Handle, k: usize, checked
     let w = layout::granule_sectors(g);
     if let Err(why) = growth::grow(image, g, h.slot, k / w + 1) {
         return Answer {
-            refusal: refusal::carried(checked, why.number()),
+            refusal: why.after(checked),
             handle: h,
         };
     }
     Answer {
-        refusal: refusal::carried(checked, 0),
+        refusal: refusal::accepted(checked),
         handle: h,
     }
 }

@@ -29,7 +29,8 @@ use Rattle.check_map.proofs.Standing.{blank-open}
 use Rattle.lists.specs.Ranges.{every_append, left-more, left-none}
 use Rattle.lists.specs.Members
 use Rattle.lists.specs.Members.{In, Distinct}
-use Rattle.back_taken.specs.Listed.{RunsOnDisk, first_of}
+use Rattle.space.specs.OnDisk.{RunsOnDisk}
+use Rattle.back_taken.specs.Listed.{first_of}
 use Rattle.back_chain.specs.Line.{Visits, Lined}
 use Rattle.back_taken.proofs.Steps.{first-steps}
 use Rattle.back_chain.proofs.First.{first-put, first-in}

@@ -1,18 +1,18 @@
--- One entry of a killed file: its pairs, its marker and link.
+-- One entry of a killed file: whether it was met before, its pairs and its link.
 use Rattle.std.specs.Prelude.{Some, None}
 use mathlib.Core.Path.{◌≡◌, refl, sym, ap, ◌∙◌}
 use mathlib.Core.List.{List, [], ◌∷◌}
-use mathlib.Core.Bool.{Bool, true, false, not, ◌&&◌, and-true}
-use Prim.Native.Nat.{ℕ, ◌≤◌, ◌<◌}
+use mathlib.Core.Bool.{Bool, true, false, ◌&&◌, and-true}
+use Prim.Native.Nat.{ℕ, ◌≤◌}
 use lib.ListN.{get_or, set}
-use lib.Dec.{eqb, leb}
-use borrow.Author.Tests.{le-leb, lt-leb, not-false}
+use lib.Dec.{leb}
+use borrow.Author.Tests.{le-leb}
 use Rattle.meaning.specs.Lists.{all}
-use Rattle.meaning.specs.Entries.{marker, link, runs, entry_granules}
-use Rattle.meaning.specs.Consistent.{follows_by, link_holds_by}
+use Rattle.meaning.specs.Entries.{entry_granules}
+use Rattle.meaning.specs.Consistent.{link_holds_by}
 use Rattle.meaning.specs.BringBack
 use Rattle.meaning.specs.declared.Geometry.{Geometry}
-use Rattle.lists.specs.Tests.{all-at, all_yes, all-no, all_none, all_one, any-hit, any-skip, any-one, is-no, not-both, all-out}
+use Rattle.lists.specs.Tests.{all-at, all_yes, all-no, all_none, not-both, all-out}
 use Rattle.check_map.specs.Marks.{marked, allows}
 use Rattle.check_walk.specs.Walk.{entry_fits, Entered}
 use Rattle.check_walk.specs.declared.Pairs.{Pairs}
@@ -28,32 +28,10 @@ unfolding all
 head {a} {b} {c} h l = rw (h, l) (and-true a)
 
 module _ (g : Geometry) (d : List ℕ) (s : ℕ) where
-  -- the marker ends the chain, or is none, or leads to an extension
-  pub link-last : eqb (marker g d s) 0xff ≡ true → true ≡ link_holds_by g d 0x80 s
-  unfolding link_holds_by
-  link-last h = sym (any-hit h _)
-
-  pub link-none : eqb (marker g d s) 0xff ≡ false → eqb (marker g d s) 0xfe ≡ false → false ≡ link_holds_by g d 0x80 s
-  unfolding link_holds_by
-  link-none h k = sym (any-skip h _ ∙ any-one _ ∙ all-no k _)
-
-  pub link-astray : {t : ℕ} {r : Bool} → t ≡ link g d s → eqb (marker g d s) 0xff ≡ false → r ≡ follows_by g d 0x80 s t → not r ≡ true → false ≡ link_holds_by g
-      d 0x80 s
-  unfolding link_holds_by
-  link-astray {t} {r} q h f n = sym (any-skip h _ ∙ any-one _ ∙ all-out _ 1 (ap (follows_by g d 0x80 s) (sym q) ∙ is-no f n))
-
-  pub link_on : {t n : ℕ} {r : Bool} → t ≡ link g d s → eqb (marker g d s) 0xff ≡ false → eqb (marker g d s) 0xfe ≡ true → r ≡ follows_by g d 0x80 s t → not r
-      ≡ false
-      → n ≡ runs g d s → eqb n 4 ≡ link_holds_by g d 0x80 s
-  unfolding link_holds_by
-  link_on {t} {n} {r} q h m f y e =
-      ap (λ (k : ℕ). eqb k 4) e
-      ∙ sym (any-skip h _ ∙ any-one _ ∙ all_yes m _ ∙ all_yes (ap (follows_by g d 0x80 s) (sym q) ∙ sym f ∙ not-false r y) _ ∙ all_one _)
-
   -- what is met before
-  pub visits-met : {m m' met met' : List ℕ} → get_or met s 0 < 1 → Visits g d s m m' met met' None
+  pub visits-met : {m m' met met' : List ℕ} → get_or met s 0 ≡ 0 → Visits g d s m m' met met' None
   unfolding allows
-  visits-met {met = met} l = record { answer = sym (all-out _ 2 (ap (λ (b : Bool). b && true) (lt-leb 1 (get_or met s 0) l))); visited = tt }
+  visits-met e = record { answer = sym (all-out _ 2 (ap (λ (n : ℕ). leb 1 n && true) e)); visited = tt }
 
   -- pairs that are not as they must be, or a granule that is met before
   pub visits-pairs : {m m'' m' met met' : List ℕ} → Entered g d s 1 m m'' None → Visits g d s m m' met met' None

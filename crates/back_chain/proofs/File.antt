@@ -1,6 +1,6 @@
 -- Whether a killed file is whole.
 use Rattle.std.specs.Prelude.{Option, Some, None}
-use mathlib.Core.Path.{◌≡◌, refl, sym, ap, ◌∙◌}
+use mathlib.Core.Path.{◌≡◌, refl, sym, ◌∙◌}
 use mathlib.Core.List.{List}
 use mathlib.Core.Bool.{Bool, true, false}
 use Prim.Native.Nat.{ℕ, ◌-◌, ◌*◌}
@@ -34,11 +34,10 @@ module _ (g : Geometry) (d : List ℕ) (s : ℕ) where
   by_size h = all-out _ 5 h
 
   -- the walk goes along 01's chain
-  pub lined : {k : ℕ} {es : List ℕ} {r : Option Walked} → Room g d → k ≡ directory_sectors g d → Lined g d (8 * (k - 2)) s es r → Lined g d
-      (length (slots g d)) s es
-      r
+  pub lined : {k : ℕ} {es : List ℕ} {r : Option Walked} → Room g d → k ≡ 8 * (directory_sectors g d - 2) → Lined g d k s es r
+      → Lined g d (length (slots g d)) s es r
   lined {k} {es} {r} rm q l =
-      let w : 8 * (k - 2) ≡ length (slots g d) = ap (λ (j : ℕ). 8 * (j - 2)) q ∙ sym (slots_length g d rm.ten rm.thirty) in
+      let w : k ≡ length (slots g d) = q ∙ sym (slots_length g d rm.ten rm.thirty) in
       rw w at l
 
   pub by-line : {es : List ℕ} → Lined g d (length (slots g d)) s es None → whole g d s ≡ false

@@ -1,5 +1,5 @@
 -- Entries whose runs lie on the disk: their granules, and that an image with the same HIT and entries has them too.
-use mathlib.Core.Path.{◌≡◌, sym, ap, ◌∙◌}
+use mathlib.Core.Path.{◌≡◌, ap}
 use mathlib.Core.List.{List}
 use mathlib.Core.Logic.{◌⊎◌, inl, inr}
 use Prim.Native.Nat.{ℕ, zero, suc, ◌+◌, ◌≤◌, ◌<◌}
@@ -14,14 +14,15 @@ use Rattle.seek.proofs.Frame.{Same, same-slot, same_runs, same_start, same_len}
 use Rattle.laws.specs.Entry.{runs-le}
 use Rattle.lists.specs.Members
 use Rattle.lists.specs.Members.{In}
-use Rattle.back_taken.specs.Listed.{RunsOnDisk, first_of}
+use Rattle.space.specs.OnDisk.{RunsOnDisk}
+use Rattle.back_taken.specs.Listed.{first_of}
 
 -- every one of these granules is on the disk
 abbrev pub Under : ℕ → List ℕ → Type 0
 Under m xs = (n : ℕ) → In n xs → n < m
 
 module _ (g : Geometry) where
-  pub under-run : (a n : ℕ) → a + n ≤ granules g → Under (granules g) (count a n)
+  under-run : (a n : ℕ) → a + n ≤ granules g → Under (granules g) (count a n)
   under-run a n h x i = let k = Members.count-in x a n i in let l = k.1 in omega arith
 
   pub under-entry : (d : List ℕ) (s : ℕ) → RunsOnDisk g d s → Under (granules g) (entry_granules g d s)
@@ -43,10 +44,7 @@ module _ (g : Geometry) where
       by (inl j) ih = ih j
       by (inr q) ih = rw q (f n (omega arith))
 
-  -- the runs of an entry, one and all, as they were read
-  pub run_is : (d : List ℕ) (s k : ℕ) {a len : ℕ} → a ≡ run_start g d s k → len ≡ run_length g d s k → run_granules g d s k ≡ count a len
-  run_is d s k {a} {len} x y = sym (ap (λ (z : ℕ). count z len) x ∙ ap (count (run_start g d s k)) y)
-
+  -- the runs of an entry, as many as were read
   pub runs-are : (d : List ℕ) (s : ℕ) {n : ℕ} → n ≡ runs g d s → each (run_granules g d s) (count 0 n) ≡ entry_granules g d s
   unfolding entry_granules
   runs-are d s q = ap (λ (k : ℕ). each (run_granules g d s) (count 0 k)) q
@@ -60,12 +58,3 @@ module _ (g : Geometry) where
             λ k l. let l' : k < runs g d s = rw q at l in
             rw (same_start g d d' r e s k sl (omega arith), same_len g d d' r e s k sl (omega arith)) (o.run k l');
       }
-
-  pub run_fits : {d d' : List ℕ} {s k n a len : ℕ} → Room g d → RunsOnDisk g d s → n ≡ runs g d s → Same g d d' → k < n → a ≡ run_start g d' s k → len ≡
-      run_length
-      g d' s k
-      → a + len ≤ granules g
-  run_fits {d} {d'} {s} {k} {n} {a} {len} r o q e h x y =
-      let w = same-on-disk r e o in
-      let l : k < runs g d' s = rw (same_runs g d d' r e s o.slot, ← q) h in
-      rw (x, y) (w.run k l)

@@ -1,16 +1,14 @@
--- Lists that grow part by part, and what a loop over the parts finds.
+-- Lists that grow part by part, and what is looked for in all parts of a list.
 use mathlib.Core.Path.{◌≡◌, refl, sym, ap, ◌∙◌}
 use mathlib.Core.List.{List, [], ◌∷◌, ◌++◌}
-use mathlib.Core.Bool.{Bool, true, false, ◌||◌, or-true}
-use mathlib.Core.Logic.{◌⊎◌, inl, inr}
+use mathlib.Core.Bool.{Bool, ◌||◌}
 use Prim.Native.Nat.{ℕ, zero, suc, ◌+◌, ◌≤◌, ◌<◌}
 use native.Mathlib.Omega.{arith}
 use native.Mathlib.Numerals.{add-one}
 use lib.ListN.{get_or, length, take}
 use lib.Seq.{take-suc, take-length}
+use Rattle.std.specs.List.{list_any, range_with_len}
 use Rattle.meaning.specs.Lists.{count, each, some}
-use Rattle.lists.specs.Tests.{le-or-lt}
-use Rattle.lists.specs.Ranges.{each_snoc}
 use Rattle.lists.specs.Members
 use Rattle.space.proofs.Looks.{some-append}
 use Rattle.back_taken.specs.Listed.{first_of}
@@ -19,9 +17,6 @@ use Rattle.back_taken.specs.Listed.{first_of}
 pub record Steps (whole part : ℕ → List ℕ) : Type 0 where
   pub none : whole 0 ≡ []
   pub more : (k : ℕ) → whole (k + 1) ≡ whole k ++ part k
-
-pub entry-steps : (f : ℕ → List ℕ) → Steps (λ k. each f (count 0 k)) f
-entry-steps f = record { none = refl; more = each_snoc f }
 
 pub first-steps : (es : List ℕ) → Steps (first_of es) (λ k. get_or es k 0 ∷ [])
 unfolding first_of
@@ -47,32 +42,12 @@ all-steps f es =
           ∙ ap (λ (l : List ℕ). each f (first_of es k) ++ l) (Members.each-one f (get_or es k 0));
     }
 
--- a search: k parts are looked through, and nothing was found
-pub record FoundNone (p : ℕ → Bool) (whole : ℕ → List ℕ) (k n : ℕ) : Type 0 where
-  pub few : k ≤ n
-  pub is : some p (whole k) ≡ false
+-- `any` over the parts of a list finds what is in all of them together
+pub found-in : (p : ℕ → Bool) (f : ℕ → List ℕ) (xs : List ℕ) → list_any (λ k. some p (f k)) xs ≡ some p (each f xs)
+found-in p f [] = refl
+found-in p f (x ∷ xs) = ap (λ (b : Bool). some p (f x) || b) (found-in p f xs) ∙ sym (some-append p (f x) (each f xs))
 
-module _ {whole part : ℕ → List ℕ} (s : Steps whole part) where
-  pub quiet-start : (p : ℕ → Bool) (n : ℕ) → FoundNone p whole 0 n
-  quiet-start p n = record { few = omega arith; is = ap (some p) s.none }
-
-  pub quiet-more : {p : ℕ → Bool} {k n : ℕ} → FoundNone p whole k n → k < n → some p (part k) ≡ false → FoundNone p whole (k + 1) n
-  quiet-more {p} {k} {n} q h b =
-      let a = q.is in record { few = omega arith; is = ap (some p) (s.more k) ∙ some-append p (whole k) (part k) ∙ rw (a, b) }
-
-  some_in : (p : ℕ → Bool) (k n : ℕ) → k < n → some p (part k) ≡ true → some p (whole n) ≡ true
-  some_in p k zero h e = absurd (let z : ⊥ = omega arith in z)
-  some_in p k (suc n) h e =
-      ap (λ (m : ℕ). some p (whole m)) (sym (add-one n)) ∙ ap (some p) (s.more n) ∙ some-append p (whole n) (part n) ∙ by (le-or-lt n k) (some_in p k n)
-    where
-      by : (n ≤ k) ⊎ (k < n) → (k < n → some p (part k) ≡ true → some p (whole n) ≡ true) → (some p (whole n) || some p (part n)) ≡ true
-      by (inl l) ih = let q : k ≡ n = omega arith in
-          ap (λ (b : Bool). some p (whole n) || b) (ap (λ (m : ℕ). some p (part m)) (sym q) ∙ e) ∙ or-true (some p (whole n))
-      by (inr l) ih = ap (λ (b : Bool). b || some p (part n)) (ih l e)
-
-  pub quiet-hit : {p : ℕ → Bool} {k n : ℕ} → FoundNone p whole k n → k < n → some p (part k) ≡ true → true ≡ some p (whole n)
-  quiet-hit {p} {k} {n} q h e = sym (some_in p k n h e)
-
-pub quiet-end : {p : ℕ → Bool} {whole : ℕ → List ℕ} {k n : ℕ} → FoundNone p whole k n → n ≤ k → false ≡ some p (whole n)
-quiet-end {p} {whole} {k} {n} t h =
-    let a = t.few in let q : k ≡ n = omega arith in sym (ap (λ (m : ℕ). some p (whole m)) (sym q) ∙ t.is)
+-- the numbers of a range
+pub numbers : (a n : ℕ) → range_with_len a n ≡ count a n
+numbers a zero = refl
+numbers a (suc n) = ap (λ (l : List ℕ). a ∷ l) (numbers (a + 1) n)

@@ -1,38 +1,30 @@
 -- Images in which granules were taken, or entries brought back.
 use mathlib.Core.Path.{◌≡◌, refl, ap, ◌∙◌}
 use mathlib.Core.List.{List, [], ◌∷◌}
-use Prim.Native.Nat.{ℕ, ◌+◌, ◌*◌, ◌%◌, ◌≤◌, ◌<◌}
+use Prim.Native.Nat.{ℕ, ◌+◌, ◌*◌, ◌≤◌, ◌<◌}
 use native.Mathlib.Omega.{arith}
 use lib.ListN.{length, get_or, set, length-set}
 use lib.Seq.{get_or-set_other}
-use Rattle.meaning.specs.Lists.{count, each, through}
+use Rattle.meaning.specs.Lists.{each, through}
 use Rattle.meaning.specs.Bits.{with_bit}
-use Rattle.meaning.specs.Layout.{granules, take_granule, gat_at, byte, directory_sectors, field, set_field, hit_at, entry_at}
-use Rattle.meaning.specs.Entries.{runs, run_start, run_length, run_granules, entry_granules}
+use Rattle.meaning.specs.Layout.{granules, take_granule, directory_sectors, field, set_field, hit_at, entry_at}
+use Rattle.meaning.specs.Entries.{entry_granules}
 use Rattle.meaning.specs.BringBack.{back_entry}
 use Rattle.meaning.specs.declared.Geometry.{Geometry}
 use Rattle.layout.specs.Room.{Room, Slot}
-use Rattle.layout.proofs.OneStep.{gat-low}
-use Rattle.seek.proofs.Frame.{Same, opened, same_refl, same-trans, same-before, same-room, same_start, same_len, same-entry}
+use Rattle.seek.proofs.Frame.{Same, opened, same_refl, same-trans, same-take, same-room, same-entry}
 use Rattle.space.proofs.Folds.{KeptFields, kept-room, kept_slot}
-use Rattle.laws.specs.Entry.{runs-le}
 use Rattle.lists.specs.Members.{In}
-use Rattle.back_taken.specs.Listed.{RunsOnDisk, Listed, first_of}
-use Rattle.back_taken.proofs.Steps.{Steps, entry-steps, first-steps, all-steps}
+use Rattle.back_taken.specs.Listed.{Listed, first_of}
+use Rattle.back_taken.proofs.Steps.{Steps, first-steps, all-steps}
 use Rattle.back_write.proofs.Done.{Done, done-start, done_more}
-use Rattle.back_taken.proofs.OnDisk.{Under, under-run, under-entry}
+use Rattle.back_taken.proofs.OnDisk.{Under, under-entry}
 
 module _ (g : Geometry) where
-  same-take : (d : List ℕ) (n : ℕ) → Room g d → n < granules g → Same g d (take_granule g d n)
-  unfolding take_granule
-  same-take d n r h =
-      let l = gat-low g n h r.units-low in let b = r.blocks-high in
-      same-before g d (gat_at g n) (with_bit (n % g.units) (byte d (gat_at g n))) (omega arith)
-
   pub same_taken : (d : List ℕ) (xs : List ℕ) → Room g d → Under (granules g) xs → Same g d (through (take_granule g) d xs)
   same_taken d [] r l = same_refl g d
   same_taken d (x ∷ xs) r l =
-      let e = same-take d x r (l x In.here) in
+      let e = same-take g d x r (l x In.here) in
       same-trans g d (take_granule g d x) (through (take_granule g) (take_granule g d x) xs) r e
       (same_taken (take_granule g d x) xs (same-room g d (take_granule g d x) r e) (λ n i. l n (In.there i)))
 
@@ -51,19 +43,6 @@ module _ (g : Geometry) where
         done = done_more s t.done h e;
         same = rw e (same-trans g d d' (through (take_granule g) d' (part k)) r t.same (same_taken d' (part k) (same-room g d d' r t.same) u));
       }
-
-  -- the runs of an entry, read in the image as it is by now
-  pub taking-run : {d d' d'' : List ℕ} {s k n a len : ℕ} → Room g d → RunsOnDisk g d s → n ≡ runs g d s → TakingBack d
-      (λ j. each (run_granules g d s) (count 0 j)) d' k
-      n → k < n
-      → a ≡ run_start g d' s k → len ≡ run_length g d' s k → d'' ≡ through (take_granule g) d' (count a len) → TakingBack d
-      (λ j. each (run_granules g d s) (count 0 j)) d'' (k + 1) n
-  taking-run {d} {d'} {d''} {s} {k} {n} {a} {len} r o q t h x y e =
-      let four = runs-le g d s in
-      let x' : a ≡ run_start g d s k = x ∙ same_start g d d' r t.same s k o.slot (omega arith) in
-      let y' : len ≡ run_length g d s k = y ∙ same_len g d d' r t.same s k o.slot (omega arith) in
-      taking-more (entry-steps (run_granules g d s)) r t h (under-run g (run_start g d s k) (run_length g d s k) (o.run k (omega arith)))
-      (e ∙ ap (λ (z : ℕ). through (take_granule g) d' (count z len)) x' ∙ ap (λ (z : ℕ). through (take_granule g) d' (count (run_start g d s k) z)) y')
 
   -- the entries of a list
   pub taking-entry : {d d' d'' es : List ℕ} {k n : ℕ} → Room g d → Listed g d es n → TakingBack d (λ j. each (entry_granules g d) (first_of es j)) d' k n

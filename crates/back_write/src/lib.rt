@@ -7,22 +7,10 @@ ghost use Rattle.meaning.specs.Layout.{take_granule};
 ghost use Rattle.meaning.specs.Entries.{entry_granules};
 ghost use Rattle.meaning.specs.BringBack.{back_entry};
 ghost use Rattle.layout.specs.Room.{Room, Slot};
-ghost use Rattle.back_taken.specs.Listed.{RunsOnDisk, Listed};
+ghost use Rattle.back_taken.specs.Listed.{Listed};
 
+use layout::Disk;
 use meaning::Geometry;
-
-// Takes the granules of the entry at slot s.
-fn take_entry(image: &mut [u8], g: Geometry, s: usize)
-    requires { Room g image.old × RunsOnDisk g image.old s }
-    ensures { image.new ≡ through (take_granule g) image.old (entry_granules g image.old s) }
-{
-    let n = layout::runs(image, g, s);
-    for j in 0..n {
-        let a = layout::run_start(image, g, s, j);
-        let len = layout::run_length(image, g, s, j);
-        space::take_run(image, g, a, len);
-    }
-}
 
 // Takes the granules of these entries.
 pub fn take_all(image: &mut [u8], g: Geometry, entries: &[usize])
@@ -31,7 +19,7 @@ pub fn take_all(image: &mut [u8], g: Geometry, entries: &[usize])
         (each (entry_granules g image.old) entries.now) }
 {
     for &s in entries {
-        take_entry(image, g, s);
+        space::take_entry(image, g, s);
     }
 }
 
@@ -40,7 +28,7 @@ fn back_entry(image: &mut [u8], g: Geometry, s: usize, h: usize)
     requires { Room g image.old × Slot g image.old s × (h < 256) }
     ensures { image.new ≡ back_entry g h image.old s }
 {
-    let flags = layout::with_bit(layout::field(image, g, s, layout::FLAGS), layout::IN_USE);
+    let flags = layout::with_bit(Disk { image, g }.field(s, layout::FLAGS), layout::IN_USE);
     layout::set_field(image, g, s, layout::FLAGS, flags);
     layout::set_hit(image, g, s, h);
 }

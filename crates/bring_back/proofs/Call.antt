@@ -25,7 +25,8 @@ use Rattle.passed.proofs.Checked.{check-stop, check-then}
 use Rattle.seek.proofs.Frame.{Same}
 use Rattle.look_up.specs.Found.{Finds}
 use Rattle.look_up.specs.declared.Found.{Found}
-use Rattle.back_taken.specs.Listed.{RunsOnDisk, first_of, Listed}
+use Rattle.space.specs.OnDisk.{RunsOnDisk}
+use Rattle.back_taken.specs.Listed.{first_of, Listed}
 use Rattle.back_taken.proofs.Steps.{first-take}
 use Rattle.back_chain.specs.Line.{Written}
 use Rattle.bring_back.specs.Plan.{Plans, Refuses}
@@ -52,8 +53,8 @@ module _ (g : Geometry) (d : List ℕ) (s : ℕ) where
   abbrev number : ℕ
   number = first (BringBack.bring_back_refusals g d s)
 
-  pub refuses : {n : ℕ} → n ≡ first (BringBack.bring_back_refusals g d s) → (n ≡ 0 → ⊥) → Refuses g d s n
-  refuses q z = record { number_is = q; refused = z }
+  pub refuses : {n : ℕ} {r : Refusal} → r ≡ refusal g d n → n ≡ first (BringBack.bring_back_refusals g d s) → (n ≡ 0 → ⊥) → Refuses g d s r
+  refuses e q z = record { told = e ∙ ap (refusal g d) q; refused = λ y. z (q ∙ y) }
 
   pub at-check : {k : Refusal} → k ≡ check g d → (k.number ≡ 0 → ⊥) → k.number ≡ first (BringBack.bring_back_refusals g d s)
   at-check e z = check-stop g d _ e z
@@ -110,10 +111,10 @@ module _ (g : Geometry) (d : List ℕ) (s : ℕ) where
 
   -- Answer and image ---------------------------------------------------------------------------------------------------------
 
-  pub refused : {n : ℕ} {c : Refusal} → c ≡ refusal g d n → Refuses g d s n
+  pub refused : {c : Refusal} → Refuses g d s c
       → ◌≡◌ {A = BroughtBack × List ℕ} (record { refusal = c; slots = 0; granules = 0 }, d) (bring_back g d s)
   unfolding bring_back
-  refused {n} q k = rw (← k.number_is, ne_eqb n 0 k.refused, q)
+  refused k = rw (ne_eqb number 0 k.refused, k.told)
 
   pub listed_then : {es d' : List ℕ} {n size : ℕ} → Room g d → Written g d (chain g d s) es n size → Same g d d' → Listed g d' es n
   listed_then r w e = record { few = w.listed.few; entry = λ j l. same-on-disk g r e (w.listed.entry j l) }

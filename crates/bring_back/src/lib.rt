@@ -3,12 +3,13 @@
 #![tactic(auto)]
 
 ghost use Rattle.std.specs.Prelude.{◌≡◌, length, MatchResult};
-ghost use Rattle.meaning.specs.Layout.{granules};
 ghost use Rattle.meaning.specs.Refusals.{check};
 ghost use Rattle.meaning.specs.BringBack.{bring_back};
 ghost use Rattle.bring_back.specs.Plan.{Plans, Refuses};
 
+use layout::Disk;
 use meaning::{BroughtBack, Geometry, Refusal};
+use refusal::Why;
 
 // What an accepted call writes: how many slots and granules, and the HIT byte.
 #[derive(Clone, Copy)]
@@ -18,39 +19,40 @@ pub struct Planned {
     pub hash: usize,
 }
 
-// Every test of the call; the number of the first that refuses it. Nothing is written but, to `entries`, the slots of the killed file.
+// Every test of the call; the refusal of the first that fails. Nothing is written but, to `entries`, the slots of the killed file.
 fn plan(
     image: &[u8],
     g: Geometry,
     s: usize,
     checked: Refusal,
     entries: &mut [usize; 256],
-) -> Result<Planned, u8>
+) -> Result<Planned, Refusal>
     requires { (checked ≡ check g image.now) × (length entries.old ≡ 256) }
     ensures { MatchResult result (Plans g image.now s entries.new) (Refuses g image.now s) }
 {
     if checked.number != 0 {
-        return Err(checked.number);
+        return Err(checked);
     }
-    if !layout::is_slot(image, g, s) {
-        return Err(12);
+    let disk = Disk { image, g };
+    if !disk.is_slot(s) {
+        return Err(Why::OutOfRange.after(checked));
     }
-    if layout::flag(image, g, s, layout::IN_USE) {
-        return Err(17);
+    if disk.flag(s, layout::IN_USE) {
+        return Err(Why::InUse.after(checked));
     }
-    if layout::flag(image, g, s, layout::SYSTEM) {
-        return Err(6);
+    if disk.flag(s, layout::SYSTEM) {
+        return Err(Why::NotAllowed.after(checked));
     }
-    let l = match back_chain::whole(image, g, s, entries) {
+    let l = match back_chain::whole(&disk, s, entries) {
         Some(l) => l,
-        None => return Err(18),
+        None => return Err(Why::NothingWhole.after(checked)),
     };
-    let name = entry::name_of(image, g, s);
-    if look_up::find(image, g, &name).slot.is_some() {
-        return Err(19);
+    let name = entry::name_of(&disk, s);
+    if look_up::find(&disk, &name).slot.is_some() {
+        return Err(Why::NameInUse.after(checked));
     }
-    if back_taken::any_taken(image, g, &entries[..l.slots]) {
-        return Err(20);
+    if back_taken::any_taken(&disk, &entries[..l.slots]) {
+        return Err(Why::GranuleTaken.after(checked));
     }
     Ok(Planned {
         slots: l.slots,
@@ -67,9 +69,9 @@ pub fn bring_back_checked(image: &mut [u8], g: Geometry, s: usize, checked: Refu
     let mut entries = [0usize; 256];
     let p = match plan(image, g, s, checked, &mut entries) {
         Ok(p) => p,
-        Err(number) => {
+        Err(refusal) => {
             return BroughtBack {
-                refusal: refusal::carried(checked, number),
+                refusal,
                 slots: 0,
                 granules: 0,
             };
@@ -79,7 +81,7 @@ pub fn bring_back_checked(image: &mut [u8], g: Geometry, s: usize, checked: Refu
     back_write::take_all(image, g, entries);
     back_write::back_all(image, g, entries, p.hash);
     BroughtBack {
-        refusal: refusal::carried(checked, 0),
+        refusal: refusal::accepted(checked),
         slots: p.slots,
         granules: p.granules,
     }

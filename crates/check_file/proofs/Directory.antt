@@ -3,7 +3,7 @@ use mathlib.Core.Path.{◌≡◌, refl, sym, ap, ◌∙◌, subst}
 use mathlib.Core.Logic.{◌⊎◌, inl, inr}
 use mathlib.Core.List.{List, [], ◌∷◌}
 use mathlib.Core.Bool.{Bool, true, false, cond}
-use Prim.Native.Nat.{ℕ, ◌+◌, ◌/◌, ◌%◌, ◌^◌, ◌≤◌, ◌<◌}
+use Prim.Native.Nat.{ℕ, ◌+◌, ◌/◌, ◌≤◌, ◌<◌}
 use native.Mathlib.Omega.{arith}
 use lib.Dec.{eqb}
 use lib.ListN.{get_or}
@@ -25,7 +25,6 @@ use Rattle.check_map.proofs.Maps
 use Rattle.check_map.proofs.Standing.{shut-lt, weight-low, weight-in, weight-out, standing-long, standing-open, standing-shut, open-if, shut-if}
 use Rattle.check_map.proofs.Window.{none-shut, shut_none, same-shut, shut-same}
 use Rattle.check_file.specs.Slots.{least, least_of, file_fits, FileSeen, Directory}
-use Rattle.check_file.proofs.OneFile.{bit-on, bit-off}
 
 pub directory-lt : (g : Geometry) (d : List ℕ) → Room g d → (n : ℕ) → In n (directory_granules g d) → n < granules g
 directory-lt g d room n i = let k = Members.count-in n (g.start / granule_sectors g) (round_up (directory_sectors g d) (granule_sectors g)) i in
@@ -153,21 +152,21 @@ module _ (g : Geometry) (d : List ℕ) (s : ℕ) where
           _ ∙ all_none
 
   -- a system file
-  pub file-system : {m m' met met' : List ℕ} {f : ℕ} {r : Bool} → f ≡ field g d s 0 → f / 2 ^ 6 % 2 ≡ 1 → FileSeen g d s 1 m m' met met' r → r ≡ true
-      → FileSeen g d s (least_of g d s) m m' met met' true
+  pub file-system : {m m' met met' : List ℕ} {f : ℕ} {b r : Bool} → f ≡ field g d s 0 → b ≡ bit 6 f → b ≡ true
+      → FileSeen g d s 1 m m' met met' r → r ≡ true → FileSeen g d s (least_of g d s) m m' met met' b
   unfolding least
-  file-system {m} {m'} {met} {met'} {f} {r} e b w t =
-      let l : ◌≡◌ {A = ℕ} (least_of g d s) 1 = ap {B = ℕ} (λ (b : Bool). cond b 1 2) (ap (bit 6) (sym e) ∙ bit-on 6 f b) in
-      subst (λ (low : ℕ). FileSeen g d s low m m' met met' true) (sym l) (subst (λ (r : Bool). FileSeen g d s 1 m m' met met' r) t w)
+  file-system {m} {m'} {met} {met'} {b = b} e q y w t =
+      let l : ◌≡◌ {A = ℕ} (least_of g d s) 1 = ap {B = ℕ} (λ (b : Bool). cond b 1 2) (ap (bit 6) (sym e) ∙ sym q ∙ y) in
+      subst (λ (low : ℕ). FileSeen g d s low m m' met met' b) (sym l) (subst (λ (r : Bool). FileSeen g d s 1 m m' met met' r) (t ∙ sym y) w)
 
   -- any other
-  pub file-other : {m m' met met' : List ℕ} {f from bits x y : ℕ} {r : Bool} → Room g d → Directory g d from bits → f ≡ field g d s 0 →
-      (f / 2 ^ 6 % 2 ≡ 1 → ⊥)
+  pub file-other : {m m' met met' : List ℕ} {f from bits x y : ℕ} {r : Bool} → Room g d → Directory g d from bits → f ≡ field g d s 0
+      → bit 6 f ≡ false
       → FileSeen g d s 1 (standing g d m) (standing g d m') met met' r → r ≡ true → Among m from bits x → Among m' from bits y
       → FileSeen g d s (least_of g d s) (standing g d m) (standing g d m') met met' (eqb y x)
   unfolding least
   file-other {m} {m'} {met} {met'} {f} {from} {bits} {x} {y} {r} room k e b w t a c =
-      let l : ◌≡◌ {A = ℕ} (least_of g d s) 2 = ap {B = ℕ} (λ (b : Bool). cond b 1 2) (ap (bit 6) (sym e) ∙ bit-off 6 f b) in
+      let l : ◌≡◌ {A = ℕ} (least_of g d s) 2 = ap {B = ℕ} (λ (b : Bool). cond b 1 2) (ap (bit 6) (sym e) ∙ b) in
       record {
         answer =
             Members.both-T

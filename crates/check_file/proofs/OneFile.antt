@@ -2,7 +2,7 @@
 use mathlib.Core.Path.{◌≡◌, refl, sym, ap, ◌∙◌}
 use mathlib.Core.List.{List, [], ◌∷◌}
 use mathlib.Core.Bool.{Bool, true, false, not, ◌&&◌, and-true, beq}
-use Prim.Native.Nat.{ℕ, ◌+◌, ◌-◌, ◌*◌, ◌/◌, ◌%◌, ◌^◌}
+use Prim.Native.Nat.{ℕ, ◌+◌, ◌-◌, ◌*◌}
 use native.Mathlib.Omega.{arith}
 use native.Mathlib.Nat.{zero-add}
 use lib.Dec.{eqb, leb}
@@ -16,7 +16,7 @@ use Rattle.meaning.specs.Chain.{chain, chain_from, owned}
 use Rattle.meaning.specs.Consistent.{hit_holds, count_holds}
 use Rattle.meaning.specs.declared.Geometry.{Geometry}
 use Rattle.layout.specs.Room.{Room}
-use Rattle.layout.proofs.OneStep.{digit_at, name-part}
+use Rattle.layout.proofs.OneStep.{name-part}
 use Rattle.lists.specs.Tests.{all_yes, all-no, all_one, any-skip, not_yes, not-no, any-one, not-both, all-out}
 use Rattle.seek.proofs.SeekSteps.{slots_length}
 use Rattle.check_map.specs.Marks.{marked, allows}
@@ -24,14 +24,6 @@ use Rattle.check_walk.specs.Walk.{Place, Walked, chain_holds}
 use Rattle.meaning.specs.Names.{hash, well_formed}
 use Rattle.lists.specs.Members
 use Rattle.check_file.specs.Slots.{least_of, name_fits, file_fits, slot_fits, chain_of, owned_of, opens, slots_fit, FileSeen, Seen}
-
--- Bits --------------------------------------------------------------------------------------------------------------------
-
-pub bit-on : (u x : ℕ) → x / 2 ^ u % 2 ≡ 1 → bit u x ≡ true
-bit-on u x h = eq-eqb _ _ (digit_at u x ∙ h)
-
-pub bit-off : (u x : ℕ) → (x / 2 ^ u % 2 ≡ 1 → ⊥) → bit u x ≡ false
-bit-off u x h = ne_eqb _ _ (λ q. h (sym (digit_at u x) ∙ q))
 
 -- One file ------------------------------------------------------------------------------------------------------------------
 
@@ -52,9 +44,9 @@ module _ (g : Geometry) (d : List ℕ) (s : ℕ) where
   file-no : {low : ℕ} {m m' met met' : List ℕ} → file_fits g d s ≡ false → FileSeen g d s low m m' met met' false
   file-no h = record { answer = sym (all-no h _); map = λ q. not-both q refl; meets = λ q. not-both q refl }
 
-  pub file-bit : {low : ℕ} {m m' met met' : List ℕ} {f : ℕ} → f ≡ field g d s 0 → f / 2 ^ 5 % 2 ≡ 1 → FileSeen g d s low m m' met met' false
+  pub file-bit : {low : ℕ} {m m' met met' : List ℕ} {f : ℕ} → f ≡ field g d s 0 → bit 5 f ≡ true → FileSeen g d s low m m' met met' false
   unfolding file_fits
-  file-bit {f = f} e h = file-no (all-no (not_yes (ap (bit 5) (sym e) ∙ bit-on 5 f h)) _)
+  file-bit e h = file-no (all-no (not_yes (ap (bit 5) (sym e) ∙ h)) _)
 
   pub file-name : {low : ℕ} {m m' met met' : List ℕ} {h : ℕ} → h ≡ hit g d s → name_fits g d h s ≡ false → FileSeen g d s low m m' met met' false
   unfolding file_fits
@@ -68,18 +60,17 @@ module _ (g : Geometry) (d : List ℕ) (s : ℕ) where
   pub two : {x y : ℕ} → x ≡ field g d s 0x14 → y ≡ field g d s 0x15 → x + 256 * y ≡ sector_count g d s
   two {x} {y} e f = ap (λ (k : ℕ). k + 256 * y) e ∙ ap (λ (k : ℕ). field g d s 0x14 + 256 * k) f
 
-  pub file-walk : {m m' met met' : List ℕ} {f h n left k : ℕ} {r : Bool} → Room g d → f ≡ field g d s 0 → (f / 2 ^ 5 % 2 ≡ 1 → ⊥) → h ≡ hit g d s → name_fits g
-      d h s ≡ true
-      → n ≡ sector_count g d s → count_holds n (end_byte g d s) ≡ true → k ≡ directory_sectors g d → left ≡ 8 * (k - 2)
+  pub file-walk : {m m' met met' : List ℕ} {f h n left : ℕ} {r : Bool} → Room g d → f ≡ field g d s 0 → bit 5 f ≡ false → h ≡ hit g d s
+      → name_fits g d h s ≡ true → n ≡ sector_count g d s → count_holds n (end_byte g d s) ≡ true → left ≡ 8 * (directory_sectors g d - 2)
       → Walked g d 1 n 0 (chain_holds g d h left s) (chain_from g d left s) m m' met met' r → FileSeen g d s 1 m m' met met' r
   unfolding file_fits chain owned
-  file-walk {m} {m'} {met} {met'} {f} {h} {n} {left} {k} {r} room e b i a c q ds l w =
-      let len : left ≡ length (slots g d) = l ∙ ap (λ (j : ℕ). 8 * (j - 2)) ds ∙ sym (slots_length g d room.ten room.thirty) in
+  file-walk {m} {m'} {met} {met'} {f} {h} {n} {left} {r} room e b i a c q l w =
+      let len : left ≡ length (slots g d) = l ∙ sym (slots_length g d room.ten room.thirty) in
       let w' : Walked g d 1 (sector_count g d s) 0 (chain_holds g d (hit g d s) (length (slots g d)) s) (chain g d s) m m' met met' r = rw (c, i, len) at w in
       let fit : file_fits g d s ≡ all (chain_holds g d (hit g d s) (length (slots g d)) s
       ∷ leb (sector_count g d s) (granule_sectors g * length (owned g d s)) ∷
       [])
-      = all_yes (not-no (ap (bit 5) (sym e) ∙ bit-off 5 f b)) _ ∙ all_yes (ap (λ (j : ℕ). name_fits g d j s) (sym i) ∙ a) _
+      = all_yes (not-no (ap (bit 5) (sym e) ∙ b)) _ ∙ all_yes (ap (λ (j : ℕ). name_fits g d j s) (sym i) ∙ a) _
       ∙ all_yes (ap (λ (j : ℕ). count_holds j (end_byte g d s)) (sym c) ∙ q) _ in
       record {
         answer =
@@ -104,51 +95,47 @@ module _ (g : Geometry) (d : List ℕ) (s : ℕ) where
   unfolding slots_fit slot_fits opens owned_of chain_of allows marked all any
   seen_plain h e = record { answer = rw (h, e, and-true, and-true, and-true); map = λ q. rw h; meets = λ q. rw h }
 
-  hit-is : {h : ℕ} {a b : Bool} → h ≡ hit g d s → eqb h 0 ≡ a → in_use g d s ≡ b → hit_holds g d s ≡ beq (not a) b
-  unfolding hit_holds
-  hit-is {h} {a} {b} e p q = ap (λ (k : ℕ). beq (not (eqb k 0)) (in_use g d s)) (sym e) ∙ rw (p, q)
+  -- of what was read: h is the HIT byte, f the flags
+  module _ {h f : ℕ} (e : h ≡ hit g d s) (q : f ≡ field g d s 0) where
+    hit-is : {a b : Bool} → eqb h 0 ≡ a → in_use g d s ≡ b → hit_holds g d s ≡ beq (not a) b
+    unfolding hit_holds
+    hit-is {a} {b} p u = ap (λ (k : ℕ). beq (not (eqb k 0)) (in_use g d s)) (sym e) ∙ rw (p, u)
 
-  -- a HIT byte of 0
-  pub seen-free : {m met : List ℕ} {h f : ℕ} → h ≡ hit g d s → h ≡ 0 → f ≡ field g d s 0 → Seen g d (s ∷ []) m m met met (not (eqb (f / 2 ^ 4 % 2) 1))
-  unfolding slot_fits
-  seen-free {m} {met} {h} {f} e z q = rw (ap (λ (k : ℕ). eqb k 1) (sym (digit_at 4 f)) ∙ ap (bit 4) q) (by (in_use g d s) refl)
-    where
-      by : (b : Bool) → in_use g d s ≡ b → Seen g d (s ∷ []) m m met met (not (in_use g d s))
-      by true u = rw u (seen_no (all-no (hit-is e (eq-eqb _ _ z) u) _))
-      by false u = rw u (seen_plain (ap (λ (b : Bool). b && not (extension g d s)) u) (sym (hit-is e (eq-eqb _ _ z) u)))
+    used : {u : Bool} → u ≡ bit 4 f → in_use g d s ≡ u
+    used v = sym (v ∙ ap (bit 4) q)
 
-  pub seen-unused : {m m' met met' : List ℕ} {h f : ℕ} → h ≡ hit g d s → (h ≡ 0 → ⊥) → f ≡ field g d s 0 → (f / 2 ^ 4 % 2 ≡ 1 → ⊥) → Seen g d (s ∷ []) m m'
-      met met' false
-  unfolding slot_fits
-  seen-unused {f = f} e z q n = seen_no (all-no (hit-is e (ne_eqb _ _ z) (ap (bit 4) (sym q) ∙ bit-off 4 f n)) _)
+    -- a HIT byte of 0
+    pub seen-free : {m met : List ℕ} (u : Bool) → h ≡ 0 → u ≡ bit 4 f → Seen g d (s ∷ []) m m met met (not u)
+    unfolding slot_fits
+    seen-free true z v = seen_no (all-no (hit-is (eq-eqb _ _ z) (used v)) _)
+    seen-free false z v = seen_plain (ap (λ (b : Bool). b && not (extension g d s)) (used v)) (sym (hit-is (eq-eqb _ _ z) (used v)))
 
-  pub seen-extension : {m met : List ℕ} {h f : ℕ} → h ≡ hit g d s → (h ≡ 0 → ⊥) → f ≡ field g d s 0 → f / 2 ^ 4 % 2 ≡ 1 → f / 2 ^ 7 % 2 ≡ 1 → Seen g d
-      (s ∷ []) m m met met true
-  seen-extension {f = f} e z q n x =
-      let u : in_use g d s ≡ true = ap (bit 4) (sym q) ∙ bit-on 4 f n in
-      let v : extension g d s ≡ true = ap (bit 7) (sym q) ∙ bit-on 7 f x in
-      seen_plain (rw (u, v)) (sym (hit-is e (ne_eqb _ _ z) u))
+    pub seen-unused : {m m' met met' : List ℕ} {r : Bool} → (h ≡ 0 → ⊥) → bit 4 f ≡ false → r ≡ false → Seen g d (s ∷ []) m m' met met' r
+    unfolding slot_fits
+    seen-unused z u t = rw t (seen_no (all-no (hit-is (ne_eqb _ _ z) (used (sym u))) _))
 
-  pub seen-file : {m m' met met' : List ℕ} {h f : ℕ} {r : Bool} → h ≡ hit g d s → (h ≡ 0 → ⊥) → f ≡ field g d s 0 → f / 2 ^ 4 % 2 ≡ 1 →
-      (f / 2 ^ 7 % 2 ≡ 1 → ⊥)
-      → FileSeen g d s (least_of g d s) m m' met met' r → Seen g d (s ∷ []) m m' met met' r
-  unfolding slots_fit slot_fits opens owned_of chain_of
-  seen-file {m} {m'} {met} {met'} {h} {f} {r} e z q n x w =
-      let u : in_use g d s ≡ true = ap (bit 4) (sym q) ∙ bit-on 4 f n in
-      let v : extension g d s ≡ false = ap (bit 7) (sym q) ∙ bit-off 7 f x in
-      let p : in_use_primary g d s ≡ true = rw (u, v) in
-      let k : slot_fits g d s ≡ file_fits g d s = all_yes (hit-is e (ne_eqb _ _ z) u) _ ∙ all_one _ ∙ any-skip (not_yes p) _ ∙ any-one (file_fits g d s) in
-      let own : owned_of g d s ≡ owned g d s = rw p in
-      let cha : chain_of g d s ≡ chain g d s = rw p in
-      record {
-        answer =
-            w.answer
-            ∙ all_three (sym k ∙ sym (and-true (slot_fits g d s)))
-            (ap (allows m (least_of g d s) 0) (sym own) ∙ sym (and-true (allows m (least_of g d s) 0 (owned_of g d s))))
-            (ap (allows met 1 0) (sym cha) ∙ sym (and-true (allows met 1 0 (chain_of g d s))));
-        map = λ t. w.map t ∙ ap (marked m 0) (sym own ∙ sym (Members.each-one (owned_of g d) s));
-        meets = λ t. w.meets t ∙ ap (marked met 0) (sym cha ∙ sym (Members.each-one (chain_of g d) s));
-      }
+    pub seen-extension : {m met : List ℕ} {r : Bool} → (h ≡ 0 → ⊥) → bit 4 f ≡ true → bit 7 f ≡ true → r ≡ true → Seen g d (s ∷ []) m m met met r
+    seen-extension z u x t =
+        seen_plain (rw (used (sym u), sym (ap (bit 7) q) ∙ x)) (t ∙ sym (hit-is (ne_eqb _ _ z) (used (sym u))))
+
+    pub seen-file : {m m' met met' : List ℕ} {r : Bool} → (h ≡ 0 → ⊥) → bit 4 f ≡ true → bit 7 f ≡ false
+        → FileSeen g d s (least_of g d s) m m' met met' r → Seen g d (s ∷ []) m m' met met' r
+    unfolding slots_fit slot_fits opens owned_of chain_of
+    seen-file {m} {m'} {met} {met'} z u x w =
+        let p : in_use_primary g d s ≡ true = rw (used (sym u), sym (ap (bit 7) q) ∙ x) in
+        let k : slot_fits g d s ≡ file_fits g d s
+        = all_yes (hit-is (ne_eqb _ _ z) (used (sym u))) _ ∙ all_one _ ∙ any-skip (not_yes p) _ ∙ any-one (file_fits g d s) in
+        let own : owned_of g d s ≡ owned g d s = rw p in
+        let cha : chain_of g d s ≡ chain g d s = rw p in
+        record {
+          answer =
+              w.answer
+              ∙ all_three (sym k ∙ sym (and-true (slot_fits g d s)))
+              (ap (allows m (least_of g d s) 0) (sym own) ∙ sym (and-true (allows m (least_of g d s) 0 (owned_of g d s))))
+              (ap (allows met 1 0) (sym cha) ∙ sym (and-true (allows met 1 0 (chain_of g d s))));
+          map = λ t. w.map t ∙ ap (marked m 0) (sym own ∙ sym (Members.each-one (owned_of g d) s));
+          meets = λ t. w.meets t ∙ ap (marked met 0) (sym cha ∙ sym (Members.each-one (chain_of g d) s));
+        }
 
 -- The name of an entry, as a part of the image: n is 11
 name-is : (g : Geometry) (d : List ℕ) {s at n : ℕ} → Room g d → Place g d s at → n ≡ 11 → take n (drop (at + 5) d) ≡ name_of g d s
@@ -159,27 +146,13 @@ name-is g d {s} {at} {n} r p e =
     let t = r.directory in
     ap (λ (k : ℕ). take k (drop (at + 5) d)) e ∙ ap (λ (k : ℕ). take 11 (drop (k + 5) d)) p.is ∙ sym (name-part g d s (omega arith))
 
--- what the test of the hash says of the entry's name
-hash-says : (g : Geometry) (d : List ℕ) (h : ℕ) {s at n : ℕ} {b : Bool} → Room g d → Place g d s at → n ≡ 11 → b ≡ eqb h (hash (take n (drop (at + 5) d)))
-    → eqb h (hash (name_of g d s)) ≡ b
-hash-says g d h r p e w = ap (λ (l : List ℕ). eqb h (hash l)) (sym (name-is g d r p e)) ∙ sym w
-
-pub name-no : (g : Geometry) (d : List ℕ) (h : ℕ) {s at n : ℕ} {b : Bool} → Room g d → Place g d s at → n ≡ 11 → b ≡ eqb h (hash (take n (drop (at + 5) d))) →
-    b ≡ false
-    → false ≡ name_fits g d h s
+-- what the tests of the hash and of the name say: b and f
+pub name-no : (g : Geometry) (d : List ℕ) (h : ℕ) {s at n : ℕ} {b : Bool} → Room g d → Place g d s at → n ≡ 11 → b ≡ eqb h (hash (take n (drop (at + 5) d)))
+    → b ≡ false → b ≡ name_fits g d h s
 unfolding name_fits
-name-no g d h r p e w t = sym (all-out _ 1 (hash-says g d h r p e w ∙ t))
+name-no g d h r p e w t = t ∙ sym (all-out _ 1 (ap (λ (l : List ℕ). eqb h (hash l)) (sym (name-is g d r p e)) ∙ sym w ∙ t))
 
-pub name-yes : (g : Geometry) (d : List ℕ) (h : ℕ) {s at n : ℕ} {b f : Bool} → Room g d → Place g d s at → n ≡ 11 → b ≡ eqb h
-    (hash (take n (drop (at + 5) d))) → b ≡ true
-    → f ≡ well_formed (take n (drop (at + 5) d)) → f ≡ name_fits g d h s
-unfolding name_fits
-name-yes g d h r p e w t q =
-    q ∙ ap well_formed (name-is g d r p e) ∙ sym (all-swap (hash-says g d h r p e w ∙ t))
-  where
-    all-swap : {a b : Bool} → b ≡ true → all (a ∷ b ∷ []) ≡ a
-    all-swap {a} {b} e = unfold all in rw e (by a)
-      where
-        by : (a : Bool) → (a && true) ≡ a
-        by true = refl
-        by false = refl
+pub name-yes : (g : Geometry) (d : List ℕ) (h : ℕ) {s at n : ℕ} {b f : Bool} → Room g d → Place g d s at → n ≡ 11
+    → b ≡ eqb h (hash (take n (drop (at + 5) d))) → b ≡ true → f ≡ well_formed (take n (drop (at + 5) d)) → f ≡ name_fits g d h s
+unfolding name_fits all
+name-yes g d h r p e w t q = rw (← name-is g d r p e, ← w, t, ← q, and-true)

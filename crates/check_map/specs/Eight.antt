@@ -4,11 +4,6 @@ use Rattle.std.specs.Int.Bits.{bit_and}
 use Rattle.meaning.specs.Layout.{most_blocks}
 use Rattle.layout.specs.Number.{number}
 
--- r is the number of the eight bytes from `at` on, and all of the map are bytes
-pub record ReadsEight (m : List ℕ) (at r : ℕ) : Type 0 where
-  pub is : r ≡ number (take 8 (drop at m))
-  pub bytes : (j : ℕ) → get_or m j 0 < 256
-
 -- m' is m with the eight bytes of x from `at` on, lowest first
 pub record PutsEight (m : List ℕ) (at x : ℕ) (m' : List ℕ) : Type 0 where
   pub inside : (i : ℕ) → i < 8 → get_or m' (at + i) 0 ≡ x / 256 ^ i % 256

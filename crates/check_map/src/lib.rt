@@ -4,21 +4,22 @@
 
 ghost use Rattle.std.specs.Prelude.{◌≡◌, ◌+◌, ◌*◌, ◌<◌, ◌≤◌, length, get_or};
 ghost use Rattle.meaning.specs.Layout.{most_blocks, most_units};
-ghost use Rattle.layout.specs.Room.{Room, Read};
+ghost use Rattle.layout.specs.Room.{Read};
 ghost use Rattle.check_map.specs.Owners.{TakesStretch, GatMap, Window};
-ghost use Rattle.check_map.specs.Eight.{ReadsEight, PutsEight, Spans, Among};
+ghost use Rattle.check_map.specs.Eight.{PutsEight, Spans, Among};
 
-use meaning::Geometry;
+use layout::Disk;
 
 // The first of the map's last eight bytes: eight from there on are the last that are read at once.
 pub const LAST_EIGHT: usize = 184;
 
 // The GAT: a bit is clear where the GAT's is set.
-pub fn gat_map(image: &[u8], g: Geometry, map: &mut [u8; 192])
-    requires { Room g image.now × (length map.old ≡ most_blocks) }
-    ensures { GatMap g image.now map.new }
+pub fn gat_map(disk: &Disk, map: &mut [u8; 192])
+    requires { length map.old ≡ most_blocks }
+    ensures { GatMap disk.now.g disk.now.image.now map.new }
 {
-    let gat = layout::gat_at(image, g, 0);
+    let image = disk.image;
+    let gat = layout::gat_at(image, disk.g, 0);
     for b in 0..192 {
         map[b] = 255 - image[gat + b];
     }
@@ -32,7 +33,7 @@ fn byte_of(map: &[u8], block: usize) -> usize
     usize::from(map[block])
 }
 
-// TakesStretch n granules of one block, from `unit` on. Whether all were open.
+// Takes n granules of one block, from `unit` on. Whether all were open.
 pub fn take_units(map: &mut [u8; 192], units: usize, block: usize, unit: usize, n: usize) -> bool
     requires { (block < most_blocks) × (unit + n ≤ units) × (units ≤ most_units) × (1 ≤ n) }
     ensures { TakesStretch units map.old (block * units + unit) n map.new result }
@@ -66,14 +67,6 @@ fn take_blocks(map: &mut [u8; 192], units: usize, block: usize, unit: usize, n: 
     take_units(map, units, b, u, left)
 }
 
-// Eight bytes of the map as a number. A slice's elements are known to be bytes, an array's behind a reference are not.
-fn read_eight(map: &[u8], at: usize) -> u64
-    requires { at + 8 ≤ length map.now }
-    ensures { ReadsEight map.now at result }
-{
-    layout::eight(map, at)
-}
-
 // Puts the eight bytes of x into the map, lowest first.
 fn put_eight(map: &mut [u8; 192], at: usize, x: u64)
     requires { (length map.old ≡ most_blocks) × (at + 8 ≤ most_blocks) }
@@ -82,7 +75,7 @@ fn put_eight(map: &mut [u8; 192], at: usize, x: u64)
     map[at..at + 8].copy_from_slice(&x.to_le_bytes());
 }
 
-// TakesStretch a run of a disk with 8 units a block: there the granules stand one after the other in the map, and the run in eight bytes of it.
+// Takes a run of a disk with 8 units a block: there the granules stand one after the other in the map, and the run in eight bytes of it.
 fn take_stretch(map: &mut [u8; 192], block: usize, unit: usize, n: usize) -> bool
     requires { (unit < most_units) × (block * 8 + unit + n ≤ most_blocks * 8) × (1 ≤ n) × (n ≤ 32) }
     ensures { TakesStretch 8 map.old (block * 8 + unit) n map.new result }
@@ -90,7 +83,7 @@ fn take_stretch(map: &mut [u8; 192], block: usize, unit: usize, n: usize) -> boo
     let at = block.min(LAST_EIGHT);
     let shift = 8 * (block - at) + unit;
     let mask = ((1u64 << n) - 1) << shift;
-    let x = read_eight(map, at);
+    let x = layout::eight(map, at);
     if x & mask != 0 {
         return false;
     }
@@ -98,7 +91,7 @@ fn take_stretch(map: &mut [u8; 192], block: usize, unit: usize, n: usize) -> boo
     true
 }
 
-// TakesStretch a run that goes over one block's end.
+// Takes a run that goes over one block's end.
 pub fn take_long(map: &mut [u8; 192], units: usize, block: usize, unit: usize, n: usize) -> bool
     requires { (unit < units) × (units ≤ most_units) × (block * units + unit + n ≤ most_blocks * units) × (1 ≤ n) × (n ≤ 32) }
     ensures { TakesStretch units map.old (block * units + unit) n map.new result }
@@ -126,5 +119,5 @@ pub fn among(map: &[u8; 192], at: usize, bits: u64) -> u64
     requires { at + 8 ≤ most_blocks }
     ensures { Among map.now at bits result }
 {
-    read_eight(map, at) & bits
+    layout::eight(map, at) & bits
 }

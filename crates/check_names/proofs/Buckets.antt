@@ -10,7 +10,7 @@ use native.Mathlib.Numerals.{add-one}
 use native.Mathlib.Decide.{ℕ_discrete}
 use lib.ListN.{get_or, set, take, drop, replicate, length-set}
 use lib.Seq.{get_or-set_same, get_or-set_other}
-use borrow.Author.Tests.{eq-eqb, ne_eqb, not-true, not-false}
+use borrow.Author.Tests.{eq-eqb, ne_eqb, not-false}
 use Rattle.meaning.specs.Lists.{every, same, all}
 use Rattle.meaning.specs.Layout.{is_slot, entry_at, directory_sectors}
 use Rattle.meaning.specs.Entries.{in_use_primary, name_of}
@@ -221,17 +221,16 @@ module _ (g : Geometry) (d : List ℕ) where
       subst (λ (y : ℕ). Linked g d next y (bucket g d (key_of g d s) s)) (sym r)
       (subst (λ (k : ℕ). Linked g d next (get_or head k 0) (bucket g d (key_of g d s) s)) (sym e) (w.linked (key_of g d s) (omega arith)))
 
-  pub joined-no : (s : ℕ) (head next : List ℕ) {f : Bool} → f ≡ every (unlike g d s) (bucket g d (key_of g d s) s) → not f ≡ true → Joined g d s head next
-      false
-  joined-no s head next {f} e t = record { answer = sym (not-true f t) ∙ e; joined = λ z. absurd (Members.false-no (sym z) tt) }
+  pub joined-no : (s : ℕ) (head next : List ℕ) {f : Bool} → f ≡ every (unlike g d s) (bucket g d (key_of g d s) s) → f ≡ false
+      → Joined g d s head next false
+  joined-no s head next e t = record { answer = sym t ∙ e; joined = λ z. absurd (Members.false-no (sym z) tt) }
 
-  pub joined-yes : (s : ℕ) (head next : List ℕ) {b x : ℕ} {f : Bool} → Buckets g d s head next → Slot g d s → in_use_primary g d s ≡ true → b ≡ key_of g d s → b
-      <
-      256
-      → x ≡ get_or head b 0 → f ≡ every (unlike g d s) (bucket g d (key_of g d s) s) → not f ≡ false → Joined g d s (set head b (s + 1)) (set next s x) true
-  joined-yes s head next {b} {x} {f} w h p e l r q t =
+  pub joined-yes : (s : ℕ) (head next : List ℕ) {b x : ℕ} {f : Bool} → Buckets g d s head next → Slot g d s → in_use_primary g d s ≡ true
+      → b ≡ key_of g d s → b < 256 → x ≡ get_or head b 0 → f ≡ every (unlike g d s) (bucket g d (key_of g d s) s) → f ≡ true
+      → Joined g d s (set head b (s + 1)) (set next s x) true
+  joined-yes s head next {b} {x} w h p e l r q t =
       record {
-        answer = sym (not-false f t) ∙ q;
+        answer = sym t ∙ q;
         joined = λ z. subst (λ (y : ℕ). Buckets g d (s + 1) (set head b (s + 1)) (set next s y)) (sym r)
             (subst (λ (k : ℕ). Buckets g d (s + 1) (set head k (s + 1)) (set next s (get_or head k 0))) (sym e) (buckets-join s head next w h p (omega arith)));
       }
@@ -367,10 +366,10 @@ module _ (g : Geometry) (d : List ℕ) where
       (differing-shut (s + j) head next (shut-run j s head next w (omega arith) (λ i q. h i (omega arith))) (omega arith) (h j (omega arith)))
 
   -- the end of a row
-  pub row-end : (row s : ℕ) (head next : List ℕ) {k : ℕ} → Room g d → Differing g d s head next → row < 8 → k ≡ directory_sectors g d → s ≡ 32 * row + (k - 2)
+  pub row-end : (row s : ℕ) (head next : List ℕ) → Room g d → Differing g d s head next → row < 8 → s ≡ 32 * row + (directory_sectors g d - 2)
       → BucketsVisited g d (32 * (row + 1)) head next true
-  row-end row s head next {k} room w l e q =
-      let a = room.ten in let b = room.thirty in
+  row-end row s head next room w l q =
+      let a = room.ten in let b = room.thirty in let k = directory_sectors g d in
       record {
         bad = λ z. absurd (Members.false-no z tt);
         good = λ z.
@@ -379,18 +378,17 @@ module _ (g : Geometry) (d : List ℕ) where
       }
 
   -- a file with the name of one before it
-  pub row-found : (row : ℕ) {s : ℕ} {head next : List ℕ} {r : Bool} → BucketsVisited g d s head next r → not r ≡ true → BucketsVisited g d (32 * (row + 1))
-      head next false
-  row-found row {r = r} w t = record { bad = λ z. w.bad (not-true r t); good = λ z. absurd (Members.false-no (sym z) tt) }
+  pub row-found : (row : ℕ) {s : ℕ} {head next : List ℕ} {r : Bool} → BucketsVisited g d s head next r → r ≡ false
+      → BucketsVisited g d (32 * (row + 1)) head next false
+  row-found row w t = record { bad = λ z. w.bad t; good = λ z. absurd (Members.false-no (sym z) tt) }
 
   -- the two ways through a slot
-  pub visit-other : (s : ℕ) (head next : List ℕ) {f : Bool} → Differing g d s head next → s < 256 → f ≡ in_use_primary g d s → not f ≡ true → BucketsVisited g d
-      (s + 1) head next true
-  visit-other s head next {f} w l e t =
-      record { bad = λ z. absurd (Members.false-no z tt); good = λ z. differing-other s head next w l (sym e ∙ not-true f t) }
+  pub visit-other : (s : ℕ) (head next : List ℕ) {f : Bool} → Differing g d s head next → s < 256 → f ≡ in_use_primary g d s → f ≡ false
+      → BucketsVisited g d (s + 1) head next (not f)
+  visit-other s head next w l e t =
+      rw t (record { bad = λ z. absurd (Members.false-no z tt); good = λ z. differing-other s head next w l (sym e ∙ t) })
 
-  pub visit-file : (s : ℕ) (head next head' next' : List ℕ) {r f : Bool} → Differing g d s head next → Slot g d s → f ≡ in_use_primary g d s → not
-      f ≡ false
+  pub visit-file : (s : ℕ) (head next head' next' : List ℕ) {r f : Bool} → Differing g d s head next → Slot g d s → f ≡ in_use_primary g d s → f ≡ true
       → Joined g d s head' next' r → BucketsVisited g d (s + 1) head' next' r
-  visit-file s head next head' next' {r} {f} w k e t j =
-      record { bad = λ z. differing-found s head' next' k (sym e ∙ not-false f t) j z; good = λ z. differing-on s head next head' next' w k.low j z }
+  visit-file s head next head' next' w k e t j =
+      record { bad = λ z. differing-found s head' next' k (sym e ∙ t) j z; good = λ z. differing-on s head next head' next' w k.low j z }

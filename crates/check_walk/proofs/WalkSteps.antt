@@ -8,11 +8,11 @@ use native.Mathlib.Omega.{arith}
 use native.Mathlib.Nat.{add-mul, one-mul, mul-le-mul}
 use lib.ListN.{length, get_or, set, length-append}
 use lib.Dec.{eqb, ltb, leb}
-use borrow.Author.Tests.{le-leb, lt-leb, lt-ltb, le-ltb, ne_eqb, eqb-true, not-false}
+use borrow.Author.Tests.{le-leb, lt-leb, lt-ltb, le-ltb, eqb-true, not-false}
 use Rattle.meaning.specs.Lists.{count, every, each, all, any}
 use Rattle.lists.specs.Members.{length-count}
-use Rattle.layout.proofs.HasRoom.{slot-of, entry-fits}
-use Rattle.meaning.specs.Layout.{granules, field, hit, is_slot, entry_at, granule_sectors, most_blocks}
+use Rattle.layout.proofs.HasRoom.{slot-of}
+use Rattle.meaning.specs.Layout.{granules, is_slot, granule_sectors, most_blocks}
 use Rattle.meaning.specs.Entries.{runs, runs_from, block, pair_byte, run_start, run_length, run_granules, entry_granules, marker, link}
 use Rattle.meaning.specs.Chain.{chain_from}
 use Rattle.meaning.specs.Consistent.{pairs_hold, runs_hold}
@@ -24,7 +24,7 @@ use Rattle.lists.specs.Tests.{all-out}
 use Rattle.check_map.specs.Marks.{marked, allows, MarksPlaces}
 use Rattle.check_map.proofs.MarkLists.{marked_append, allows-append}
 use Rattle.lists.specs.Members
-use Rattle.check_walk.specs.Walk.{Place, TakesRun, run_holds, unused, entry_fits, pairs_of, Entered, Walked, goes_on, marker_holds, chain_holds, onward}
+use Rattle.check_walk.specs.Walk.{TakesRun, run_holds, unused, entry_fits, Entered, Walked, goes_on, marker_holds, chain_holds, onward}
 use Rattle.check_walk.specs.Walk.{granules_of}
 use Rattle.check_walk.specs.declared.Pairs.{Pairs}
 use Rattle.lists.specs.Ranges.{all-four, every_append, every-alike, every_true, count_cut, each_snoc, every-snoc, left-more}
@@ -64,9 +64,9 @@ module _ (g : Geometry) (d : List ℕ) (s k least : ℕ) where
       → TakesRun g d s k least m m' None
   takes-disk e f q h = taken_not (all-no (all-out _ 1 (lt-leb _ _ (rw (e, f, q) at h))) _)
 
-  pub takes-map : {m m' : List ℕ} {x y : ℕ} {r : Bool} → x ≡ pair_byte g d s k → y ≡ block g d s k
-      → MarksPlaces m least 0 (count (y * g.units + x / 32) (1 + x % 32)) m' r → not r ≡ true → TakesRun g d s k least m m' None
-  takes-map {m} {m'} {x} {y} {r} e f w h =
+  pub takes-map : {m m' m'' : List ℕ} {x y : ℕ} {r : Bool} → x ≡ pair_byte g d s k → y ≡ block g d s k
+      → MarksPlaces m least 0 (count (y * g.units + x / 32) (1 + x % 32)) m' r → not r ≡ true → TakesRun g d s k least m m'' None
+  takes-map {m} {m'} {m''} {x} {y} {r} e f w h =
       let w' : MarksPlaces m least 0 (run_granules g d s k) m' r = rw (e, f) at w in
       taken_not (all-out _ 1 (is-no w'.answer h))
 
@@ -81,10 +81,6 @@ module _ (g : Geometry) (d : List ℕ) (s k least : ℕ) where
             ∙ all_none);
         taken = record { small = omega arith; length-is = ap (λ (v : ℕ). 1 + v % 32) e; map = w'.map (not-false r h) };
       }
-
-all_rest : (a : Bool) {b c : Bool} → b ≡ true → c ≡ true → (a && true) ≡ all (a ∷ b ∷ c ∷ [])
-unfolding all
-all_rest a h l = rw (h, l)
 
 -- An entry's pairs -------------------------------------------------------------------------------------------------------
 
@@ -226,46 +222,19 @@ module _ (g : Geometry) (d : List ℕ) (s : ℕ) where
       let z : runs g d s ≡ 4 = j.none ∙ runs_none g d s 4 in
       whole {k = 4} j z (pairs-past z (omega arith))
 
-  -- what was taken, told as one number
-  pub told : {least k n : ℕ} {m₀ m : List ℕ} → k ≤ 4 → Entered g d s least m₀ m (Some (record { runs = k; granules = n })) → Entered g d s least m₀ m
-      (pairs_of (16 * n + (8 + k)))
-  told {k = k} {n = n} h w =
-      let a : (16 * n + (8 + k)) % 8 ≡ k = omega arith in
-      let b : (16 * n + (8 + k)) / 16 ≡ n = omega arith in
-      let z : eqb (16 * n + (8 + k)) 0 ≡ false = ne_eqb (16 * n + (8 + k)) 0 (λ q. omega arith) in
-      rw (z, a, b) w
-
-  -- and what such a number tells
-  pub was_taken : {least r : ℕ} {m₀ m : List ℕ} → Entered g d s least m₀ m (pairs_of r) → (r ≡ 0 → ⊥) → Entered g d s least m₀ m
-      (Some (record { runs = r % 8; granules = r / 16 }))
-  was_taken {r = r} w n = rw (ne_eqb r 0 n) at w
-
-  pub none_taken : {least r : ℕ} {m₀ m : List ℕ} → Entered g d s least m₀ m (pairs_of r) → r ≡ 0 → Entered g d s least m₀ m None
-  none_taken w e = rw e at w
+-- what `goes_on` reads of a slot, once it is one
+pub ruleset is_one = (slot-of)
 
 -- The chain ---------------------------------------------------------------------------------------------------------------
 
 module _ (g : Geometry) (d : List ℕ) where
-  abbrev pub goes_at : ℕ → ℕ → ℕ → Bool
-  goes_at h s t =
-      all (eqb (marker g d s) 0xfe ∷ eqb (runs g d s) 4 ∷ is_slot g d t ∷ eqb (field g d t 0) 0x90 ∷ eqb (field g d t 1) s
-      ∷ not (eqb (block g d t 0) 0xff) ∷ eqb (hit g d t) h ∷ [])
-
-  pub goes-at : (h s : ℕ) {t : ℕ} → t ≡ link g d s → goes_on g d h s ≡ goes_at h s t
-  unfolding goes_on
-  goes-at h s e = ap (goes_at h s) (sym e)
-
   pub goes-slot : (h s : ℕ) → goes_on g d h s ≡ true → is_slot g d (link g d s) ≡ true
   unfolding goes_on
   goes-slot h s e = all-at _ e 2
 
-  -- so its entry has a place
-  pub goes-place : (h s : ℕ) {t at : ℕ} → goes_on g d h s ≡ true → t ≡ link g d s → at ≡ entry_at g t → Place g d t at
-  goes-place h s e f q = record { slot = slot-of g d _ (ap (is_slot g d) f ∙ goes-slot h s e); is = q }
-
-  -- and the place of a slot's entry is one of the image
-  pub slot-in : {s : ℕ} → Room g d → Slot g d s → entry_at g s ≤ length d
-  slot-in r s = let e = entry-fits g d _ r s in omega arith
+  -- so it has an entry
+  pub goes-slot-of : (h s : ℕ) {t : ℕ} → goes_on g d h s ≡ true → t ≡ link g d s → Slot g d t
+  goes-slot-of h s e f = slot-of g d _ (ap (is_slot g d) f ∙ goes-slot h s e)
 
   goes-marker : (h s : ℕ) → goes_on g d h s ≡ true → marker g d s ≡ 0xfe
   unfolding goes_on

@@ -1,6 +1,6 @@
 -- What the walk along a chain tests, and what it leaves in the maps.
-use Rattle.std.specs.Prelude.{◌≡◌, Bool, true, false, not, cond, List, [], ◌∷◌, ℕ, zero, suc, ◌+◌, ◌*◌, ◌/◌, ◌%◌, ◌≤◌, eqb, ltb, leb, length, Option}
-use Rattle.std.specs.Prelude.{Some, None, is_some, IfSome}
+use Rattle.std.specs.Prelude.{◌≡◌, Bool, true, false, not, cond, List, [], ◌∷◌, ℕ, zero, suc, ◌+◌, ◌*◌, ◌≤◌, eqb, ltb, leb, length, Option}
+use Rattle.std.specs.Prelude.{is_some, IfSome}
 use Rattle.meaning.specs.Lists.{each, all, any}
 use Rattle.meaning.specs.Layout.{granules, field, hit, is_slot, entry_at, granule_sectors}
 use Rattle.meaning.specs.Entries.{runs, block, first_unit, run_start, run_length, run_granules, entry_granules, marker, link}
@@ -14,10 +14,6 @@ use Rattle.check_walk.specs.declared.Pairs.{Pairs}
 pub record Place (g : Geometry) (d : List ℕ) (s at : ℕ) : Type 0 where
   pub slot : Slot g d s
   pub is : at ≡ entry_at g s
-
--- the geometry of six numbers: the walk is handed these, and no struct
-abbrev pub geometry : ℕ → ℕ → ℕ → ℕ → Bool → ℕ → Geometry
-geometry b u s n y w = record { blocks = b; units = u; start = s; noPassword = n; system = y; granule = w }
 
 abbrev pub runs_of : Geometry → List ℕ → ℕ → ℕ
 runs_of g d s = runs g d s
@@ -44,10 +40,6 @@ pub record TakesRun (g : Geometry) (d : List ℕ) (s k least : ℕ) (m m' : List
 -- what an entry by itself must hold, with the map m
 abbrev pub entry_fits : Geometry → List ℕ → ℕ → ℕ → List ℕ → Bool
 entry_fits g d s least m = all (pairs_hold g d s ∷ runs_hold g d s ∷ allows m least 0 (entry_granules g d s) ∷ [])
-
--- what an entry's pairs gave, told as one number: 16 times the granules, and 8 and the runs beside them; 0 where they are not as they must be
-abbrev pub pairs_of : ℕ → Option Pairs
-pairs_of r = cond (eqb r 0) None (Some (record { runs = r % 8; granules = r / 16 }))
 
 -- an entry that was taken
 pub record PairsTaken (g : Geometry) (d : List ℕ) (s : ℕ) (m m' : List ℕ) (p : Pairs) : Type 0 where

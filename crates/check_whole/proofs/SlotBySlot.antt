@@ -4,18 +4,16 @@ use mathlib.Core.List.{List, [], ◌∷◌, ◌++◌}
 use mathlib.Core.Bool.{Bool, true, false, ◌&&◌}
 use Prim.Native.Nat.{ℕ, suc, ◌+◌, ◌-◌, ◌*◌, ◌/◌, ◌%◌, ◌≤◌, ◌<◌}
 use native.Mathlib.Omega.{arith}
-use lib.Dec.{eqb, leb}
-use borrow.Author.Tests.{eq-eqb, ne_eqb, leb-true, eqb-true}
-use Rattle.meaning.specs.Lists.{count, every, each, has, all}
-use Rattle.meaning.specs.Layout.{granules, fits_geometry, directory_sectors, above_ten, granule_sectors, most_blocks, most_units}
+use borrow.Author.Tests.{leb-true, eqb-true}
+use Rattle.meaning.specs.Lists.{count, every, each, all}
+use Rattle.meaning.specs.Layout.{granules, fits_geometry, directory_sectors, most_blocks, most_units}
 use Rattle.lists.specs.Sizes
 use Rattle.meaning.specs.Consistent.{length_holds}
 use Rattle.meaning.specs.declared.Geometry.{Geometry}
 use Rattle.layout.specs.Room.{Room}
 use Rattle.layout.proofs.OneStep.{below}
-use Rattle.lists.specs.Tests.{all-at, all_yes, all-no, all_one, not-both}
-use Rattle.layout.proofs.HasRoom.{low-twenty, fits-directory}
-use Rattle.lists.specs.Below.{all_below, all-below, alike, alike-eq}
+use Rattle.lists.specs.Tests.{all-at, not-both}
+use Rattle.layout.proofs.HasRoom.{fits-directory}
 use Rattle.check_map.specs.Marks.{marked, allows}
 use Rattle.check_map.proofs.MarkLists.{marked_append}
 use Rattle.lists.specs.Ranges.{every_append, count-more, count_none}
@@ -63,37 +61,6 @@ room_of g d f h =
       directory = e.2;
     }
 
-abbrev fives : List ℕ
-fives = 0 ∷ 5 ∷ 10 ∷ 15 ∷ 20 ∷ []
-
-five-all : all_below 21 (λ x. alike (has fives x) (eqb (x % 5) 0)) ≡ true
-unfolding alike
-five-all = refl
-
-five-at : (x : ℕ) → x ≤ 20 → has fives x ≡ eqb (x % 5) 0
-five-at x h = alike-eq _ _ (all-below 21 (λ x. alike (has fives x) (eqb (x % 5) 0)) five-all x (omega arith))
-
-module _ (g : Geometry) (d : List ℕ) where
-  pub length-far : {x : ℕ} → x ≡ above_ten g d → 20 < x → false ≡ length_holds g d
-  unfolding length_holds
-  length-far {x} e h = sym (all-no (by (has fives (above_ten g d)) refl) _)
-    where
-      by : (b : Bool) → has fives (above_ten g d) ≡ b → has fives (above_ten g d) ≡ false
-      by true q = absurd (let l = low-twenty (above_ten g d) q in let z : ⊥ = omega arith in z)
-      by false q = q
-
-  pub length-odd : {x : ℕ} → x ≡ above_ten g d → x ≤ 20 → (x % 5 ≡ 0 → ⊥) → false ≡ length_holds g d
-  unfolding length_holds
-  length-odd {x} e h n = sym (all-no (ap (has fives) (sym e) ∙ five-at x h ∙ ne_eqb _ _ n) _)
-
-  pub length_rest : {x n w : ℕ} → x ≡ above_ten g d → x ≤ 20 → x % 5 ≡ 0 → n ≡ granules g → w ≡ granule_sectors g → leb (g.start + (10 + x)) (n * w) ≡
-      length_holds g d
-  unfolding length_holds directory_sectors
-  length_rest {x} {n} {w} e h f q p =
-      ap (λ (s : ℕ). leb (g.start + (10 + x)) (n * s)) p
-      ∙ ap (λ (k : ℕ). leb (g.start + (10 + k)) (n * granule_sectors g)) e ∙ ap (λ (k : ℕ). leb (g.start + (10 + above_ten g d)) (k * granule_sectors g)) q
-      ∙ sym (all_yes (ap (has fives) (sym e) ∙ five-at x h ∙ eq-eqb _ _ f) _ ∙ all_one _)
-
 -- Slot after slot -------------------------------------------------------------------------------------------------------------
 
 pub opens-append : (low : ℕ → ℕ) (f : ℕ → List ℕ) (xs ys m : List ℕ) → opens m low f (xs ++ ys) ≡
@@ -131,10 +98,10 @@ sectors-more h = ap (each sector_slots) (count-more h)
 pub sectors-none : {columns column : ℕ} → columns ≤ column → sectors_from columns column ≡ []
 sectors-none h = ap (each sector_slots) (count_none h)
 
-pub sectors-are : (g : Geometry) (d : List ℕ) {k : ℕ} → k ≡ directory_sectors g d → sectors_from (k - 2) 0 ≡ disk_slots g d
+pub sectors-are : (g : Geometry) (d : List ℕ) → sectors_from (directory_sectors g d - 2) 0 ≡ disk_slots g d
 unfolding disk_slots
-sectors-are g d {k} e = ap (λ (j : ℕ). each sector_slots (count 0 (j - 2 - 0))) e ∙ ap (λ (j : ℕ). each sector_slots (count 0 j))
-    (let z : directory_sectors g d - 2 - 0 ≡ directory_sectors g d - 2 = omega arith in z)
+sectors-are g d =
+    ap (λ (j : ℕ). each sector_slots (count 0 j)) (let z : directory_sectors g d - 2 - 0 ≡ directory_sectors g d - 2 = omega arith in z)
 
 -- the slots of a sector from s on
 abbrev pub column_from : ℕ → List ℕ

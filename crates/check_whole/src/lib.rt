@@ -4,48 +4,43 @@
 ghost use Rattle.std.specs.Prelude.{◌≡◌, ◌+◌, ◌/◌, ◌<◌};
 ghost use Rattle.meaning.specs.Layout.{directory_sectors, granule_sectors, round_up};
 ghost use Rattle.meaning.specs.Consistent.{length_holds, consistent};
-ghost use Rattle.layout.specs.Room.{Room};
 ghost use Rattle.check_map.specs.Owners.{standing};
 ghost use Rattle.check_map.specs.Eight.{Spans};
 ghost use Rattle.check_whole.specs.Slots.{FitsImage, sector_slots, disk_slots};
 ghost use Rattle.check_file.specs.Slots.{Seen, Directory};
 
+use layout::Disk;
 use meaning::Geometry;
 
 // Whether the 1FH byte is allowed and the directory fits the image.
+#[tactic(auto, unfolding(meaning::specs::Consistent::length_holds, meaning::specs::Layout::directory_sectors, meaning::specs::Lists::all))]
 pub fn length_holds(image: &[u8], g: Geometry) -> bool
     requires { FitsImage g image.now }
     ensures { result ≡ length_holds g image.now }
 {
     let above = usize::from(image[layout::hit_at(image, g, 31)]);
-    if 20 < above {
-        return false;
-    }
-    if above % 5 != 0 {
-        return false;
-    }
-    g.start + (10 + above) <= layout::granules(g) * layout::granule_sectors(g)
+    matches!(above, 0 | 5 | 10 | 15 | 20)
+        && g.start + (10 + above) <= layout::granules(g) * layout::granule_sectors(g)
 }
 
 // The slots of one sector of the directory, which stand below each other in a column of the HIT.
 fn sector_holds(
-    image: &[u8],
-    g: Geometry,
+    disk: &Disk,
     column: usize,
     map: &mut [u8; 192],
     met: &mut [u8; 256],
     from: usize,
     bits: u64,
 ) -> bool
-    requires { Room g image.now × (column + 2 < directory_sectors g image.now) × Directory g image.now from bits }
-    ensures { Seen g image.now (sector_slots column) (standing g image.now map.old)
-        (standing g image.now map.new) met.old met.new result }
+    requires { (column + 2 < directory_sectors disk.now.g disk.now.image.now) × Directory disk.now.g disk.now.image.now from bits }
+    ensures { Seen disk.now.g disk.now.image.now (sector_slots column) (standing disk.now.g disk.now.image.now map.old)
+        (standing disk.now.g disk.now.image.now map.new) met.old met.new result }
 {
-    let mut at = layout::entry_at(image, g, column);
+    let mut at = layout::entry_at(disk.image, disk.g, column);
     let mut s = column;
-    // A slot's number and its entry's place step together, each by 32.
+    // A slot's number and its entry's place step together, each by 32. A `for` over the rows was tried: the whole check costs up to 6 % more.
     while s < 256 {
-        if !check_file::slot_holds(image, g, s, at, map, met, from, bits) {
+        if !check_file::slot_holds(disk, s, at, map, met, from, bits) {
             return false;
         }
         at += 32;
@@ -55,21 +50,13 @@ fn sector_holds(
 }
 
 // All slots, in the order in which their entries stand on the disk.
-fn slots_hold(
-    image: &[u8],
-    g: Geometry,
-    map: &mut [u8; 192],
-    met: &mut [u8; 256],
-    from: usize,
-    bits: u64,
-) -> bool
-    requires { Room g image.now × Directory g image.now from bits }
-    ensures { Seen g image.now (disk_slots g image.now) (standing g image.now map.old)
-        (standing g image.now map.new) met.old met.new result }
+fn slots_hold(disk: &Disk, map: &mut [u8; 192], met: &mut [u8; 256], from: usize, bits: u64) -> bool
+    requires { Directory disk.now.g disk.now.image.now from bits }
+    ensures { Seen disk.now.g disk.now.image.now (disk_slots disk.now.g disk.now.image.now) (standing disk.now.g disk.now.image.now map.old)
+        (standing disk.now.g disk.now.image.now map.new) met.old met.new result }
 {
-    let columns = layout::directory_sectors(image, g) - 2;
-    for column in 0..columns {
-        if !sector_holds(image, g, column, map, met, from, bits) {
+    for column in 0..disk.columns() {
+        if !sector_holds(disk, column, map, met, from, bits) {
             return false;
         }
     }
@@ -77,23 +64,24 @@ fn slots_hold(
 }
 
 // The first of the eight bytes of the owner map that the directory's granules stand in.
-fn directory_from(image: &[u8], g: Geometry) -> usize
-    requires { Room g image.now }
-    ensures { Spans g.units (g.start / granule_sectors g) (round_up (directory_sectors g image.now) (granule_sectors g)) result }
+fn directory_from(disk: &Disk) -> usize
+    ensures { Spans disk.now.g.units (disk.now.g.start / granule_sectors disk.now.g) (round_up (directory_sectors disk.now.g disk.now.image.now)
+        (granule_sectors disk.now.g)) result }
 {
-    let block = g.start / layout::granule_sectors(g) / g.units;
+    let block = disk.g.start / layout::granule_sectors(disk.g) / disk.g.units;
     block.min(check_map::LAST_EIGHT)
 }
 
 // The bits of the directory's granules in them.
-fn directory_bits(image: &[u8], g: Geometry, from: usize) -> u64
-    requires { Room g image.now × Spans g.units (g.start / granule_sectors g) (round_up (directory_sectors g image.now) (granule_sectors g)) from }
-    ensures { Directory g image.now from result }
+fn directory_bits(disk: &Disk, from: usize) -> u64
+    requires { Spans disk.now.g.units (disk.now.g.start / granule_sectors disk.now.g) (round_up (directory_sectors disk.now.g disk.now.image.now)
+        (granule_sectors disk.now.g)) from }
+    ensures { Directory disk.now.g disk.now.image.now from result }
 {
     check_map::directory_bits(
-        g.units,
-        g.start / layout::granule_sectors(g),
-        layout::directory_granules(image, g),
+        disk.g.units,
+        disk.g.start / layout::granule_sectors(disk.g),
+        disk.directory_granules(),
         from,
     )
 }
@@ -106,20 +94,18 @@ pub fn consistent(image: &[u8], g: Geometry) -> bool
     if !length_holds(image, g) {
         return false;
     }
-    let from = directory_from(image, g);
-    let bits = directory_bits(image, g, from);
+    let disk = Disk { image, g };
+    let from = directory_from(&disk);
+    let bits = directory_bits(&disk, from);
     let mut map = [0u8; 192];
-    check_map::gat_map(image, g, &mut map);
-    if check_map::among(&map, from, bits) != 0 {
-        return false;
-    }
+    check_map::gat_map(&disk, &mut map);
     let mut met = [0u8; 256];
-    check_met::copy_hit(image, g, &mut met);
-    if !slots_hold(image, g, &mut map, &mut met, from, bits) {
+    check_met::copy_hit(&disk, &mut met);
+    if check_map::among(&map, from, bits) != 0
+        || !slots_hold(&disk, &mut map, &mut met, from, bits)
+        || !check_met::all_met(&disk, &met)
+    {
         return false;
     }
-    if !check_met::all_met(image, g, &met) {
-        return false;
-    }
-    check_names::names_differ(image, g)
+    check_names::names_differ(&disk)
 }

@@ -1,11 +1,11 @@
 // Compare: the differences of two disks by rising names, one told a call.
 #![tactic(auto)]
 
-ghost use Rattle.std.specs.Prelude.{◌≡◌, ◌≤◌, drop};
+ghost use Rattle.std.specs.Prelude.{◌≡◌, drop};
 ghost use Rattle.meaning.specs.Entries.{name_of};
 ghost use Rattle.meaning.specs.Refusals.{check};
 ghost use Rattle.meaning.specs.Plain.{file_at};
-ghost use Rattle.layout.specs.Room.{Room, Slot};
+ghost use Rattle.layout.specs.Room.{Slot};
 ghost use Rattle.differences.specs.Compare.{name_only, unlike, difference, tells_none, tell_first, differences, compare};
 ghost use Rattle.compare_order.specs.Whole.{WholeDisk, StartsFile};
 ghost use Rattle.compare_order.specs.Walk.{Files, name_at, on_first, on_second};
@@ -13,6 +13,7 @@ ghost use Rattle.compare.specs.Kind.{contents_differ, kind_of};
 
 use compare_order::Pair;
 use differences::Difference;
+use layout::Disk;
 use meaning::{Geometry, Refusal};
 
 // Whether two contents differ that part at `at`.
@@ -34,39 +35,36 @@ fn kind_of(contents: bool, size: bool, date: bool, other: bool) -> u8
 }
 
 // A difference, or none, of which only the name counts.
-fn name_only(image: &[u8], g: Geometry, s: usize, kind: u8) -> Difference
-    requires { Room g image.now × Slot g image.now s }
-    ensures { result ≡ name_only (name_of g image.now s) kind }
+fn name_only(disk: &Disk, s: usize, kind: u8) -> Difference
+    requires { Slot disk.now.g disk.now.image.now s }
+    ensures { result ≡ name_only (name_of disk.now.g disk.now.image.now s) kind }
 {
     Difference {
-        refusal: refusal::unplaced(0),
         kind,
-        name: entry::name_of(image, g, s),
-        at: 0,
-        contents: false,
-        size: false,
-        date: false,
-        other: false,
+        name: entry::name_of(disk, s),
+        ..tells_none(refusal::none())
     }
 }
 
 // Two files of one name, neither of them a system file.
-fn unlike(first: &[u8], g: Geometry, second: &[u8], h: Geometry, s: usize, t: usize) -> Difference
-    requires { WholeDisk g first.now × WholeDisk h second.now × StartsFile g first.now s × StartsFile h second.now t }
-    ensures { result ≡ unlike (name_of g first.now s) (file_at g first.now s) (file_at h second.now t) }
+fn unlike(first: &Disk, second: &Disk, s: usize, t: usize) -> Difference
+    requires { WholeDisk first.now.g first.now.image.now × WholeDisk second.now.g second.now.image.now × StartsFile first.now.g first.now.image.now s
+        × StartsFile second.now.g second.now.image.now t }
+    ensures { result ≡ unlike (name_of first.now.g first.now.image.now s) (file_at first.now.g first.now.image.now s)
+        (file_at second.now.g second.now.image.now t) }
 {
-    let n = layout::size_of(first, g, s);
-    let m = layout::size_of(second, h, t);
-    let at = compare_bytes::parting_at(first, g, second, h, s, t, n, m);
+    let n = first.size_of(s);
+    let m = second.size_of(t);
+    let at = compare_bytes::parting_at(first, second, s, t, n, m);
     let contents = contents_differ(at, n, m);
     let size = n != m;
-    let date = compare_attributes::dates_differ(first, g, second, h, s, t);
-    let other = compare_attributes::others_differ(first, g, second, h, s, t);
+    let date = compare_attributes::dates_differ(first, second, s, t);
+    let other = compare_attributes::others_differ(first, second, s, t);
     let kind = kind_of(contents, size, date, other);
     Difference {
-        refusal: refusal::unplaced(0),
+        refusal: refusal::none(),
         kind,
-        name: entry::name_of(first, g, s),
+        name: entry::name_of(first, s),
         at,
         contents,
         size,
@@ -76,19 +74,21 @@ fn unlike(first: &[u8], g: Geometry, second: &[u8], h: Geometry, s: usize, t: us
 }
 
 // What stands under one name, on the first disk and on the second.
-fn difference_at(first: &[u8], g: Geometry, second: &[u8], h: Geometry, p: Pair) -> Difference
-    requires { WholeDisk g first.now × WholeDisk h second.now × Files g first.now h second.now p }
-    ensures { result ≡ difference (name_at g first.now h second.now p) (on_first g first.now h second.now p)
-        (on_second g first.now h second.now p) }
+fn difference_at(first: &Disk, second: &Disk, p: Pair) -> Difference
+    requires { WholeDisk first.now.g first.now.image.now × WholeDisk second.now.g second.now.image.now
+        × Files first.now.g first.now.image.now second.now.g second.now.image.now p }
+    ensures { result ≡ difference (name_at first.now.g first.now.image.now second.now.g second.now.image.now p)
+        (on_first first.now.g first.now.image.now second.now.g second.now.image.now p)
+        (on_second first.now.g first.now.image.now second.now.g second.now.image.now p) }
 {
     match p {
-        Pair::First(s) => name_only(first, g, s, 1),
-        Pair::Second(t) => name_only(second, h, t, 2),
+        Pair::First(s) => name_only(first, s, 1),
+        Pair::Second(t) => name_only(second, t, 2),
         Pair::Both(s, t) => {
-            if layout::system(first, g, s) || layout::system(second, h, t) {
-                name_only(first, g, s, 0)
+            if first.system(s) || second.system(t) {
+                name_only(first, s, 0)
             } else {
-                unlike(first, g, second, h, s, t)
+                unlike(first, second, s, t)
             }
         }
     }
@@ -111,28 +111,19 @@ pub fn tells_none(c: Refusal) -> Difference
 }
 
 // The difference of that number, by rising names; or "no more".
-fn told(first: &[u8], g: Geometry, second: &[u8], h: Geometry, number: usize) -> Difference
-    requires { WholeDisk g first.now × WholeDisk h second.now }
-    ensures { result ≡ tell_first (drop number (differences g first.now h second.now)) }
+fn told(first: &Disk, second: &Disk, number: usize) -> Difference
+    requires { WholeDisk first.now.g first.now.image.now × WholeDisk second.now.g second.now.image.now }
+    ensures { result ≡ tell_first (drop number (differences first.now.g first.now.image.now second.now.g second.now.image.now)) }
 {
     let mut ours = [0u8; 256];
     let mut theirs = [0u8; 256];
-    let n = compare_order::sort(first, g, &mut ours);
-    let m = compare_order::sort(second, h, &mut theirs);
+    let n = compare_order::sort(first, &mut ours);
+    let m = compare_order::sort(second, &mut theirs);
     let mut left = number;
     let mut i = 0;
     let mut j = 0;
-    while let Some(p) = compare_order::next_pair(
-        first,
-        g,
-        second,
-        h,
-        &ours[..n],
-        i,
-        &theirs[..m],
-        j,
-    ) {
-        let x = difference_at(first, g, second, h, p);
+    while let Some(p) = compare_order::next_pair(first, second, &ours[..n], i, &theirs[..m], j) {
+        let x = difference_at(first, second, p);
         if x.kind != 0 {
             if left == 0 {
                 return x;
@@ -148,7 +139,7 @@ fn told(first: &[u8], g: Geometry, second: &[u8], h: Geometry, number: usize) ->
             }
         }
     }
-    tells_none(refusal::unplaced(0))
+    tells_none(refusal::none())
 }
 
 // Compare, of two disks whose checks answered `checked` and `checked2`.
@@ -170,5 +161,10 @@ pub fn compare_checked(
     if checked2.number != 0 {
         return tells_none(refusal::naming(2, checked2));
     }
-    told(first, g, second, h, number)
+    let first = Disk { image: first, g };
+    let second = Disk {
+        image: second,
+        g: h,
+    };
+    told(&first, &second, number)
 }

@@ -1,17 +1,20 @@
 -- Two contents held against each other, byte by byte and run by run.
 use mathlib.Core.Path.{◌≡◌, refl, sym, ap, ◌∙◌}
 use mathlib.Core.Logic.{⊎_elim}
-use mathlib.Core.Bool.{Bool, true}
+use mathlib.Core.Bool.{Bool, true, not, cond}
 use mathlib.Core.List.{List, [], ◌∷◌, ◌++◌}
 use Rattle.std.specs.Str.{bytes_eq}
-use Rattle.std.specs.Prelude.{min}
+use Rattle.std.specs.Prelude.{Option, Some, None, min, nat_eq}
+use Rattle.std.specs.List.{zip, position_or_len}
+use Rattle.std.specs.Option.{unwrap_or}
+use Rattle.std.proofs.lemmas.Bool.Decides.{nat_tests}
+use Rattle.std.proofs.lemmas.Slice.Zip.{length-zip}
+use lib.Dec.{ltb}
 use Rattle.std.proofs.lemmas.Slice.Eq.{bytes_eq-Decides}
 use Prim.Native.Nat.{ℕ, suc, ◌+◌, ◌-◌, ◌*◌, ◌≤◌, ◌<◌}
 use native.Mathlib.Omega.{arith}
 use native.Mathlib.Nat.{zero-add, add-zero}
-use native.Mathlib.Numerals.{add-one}
-use lib.ListN.{length, get_or, take, drop, drop_of_length-le}
-use lib.Seq.{drop-cons}
+use lib.ListN.{length, take, drop}
 use Rattle.meaning.specs.Layout.{granule_bytes}
 use Rattle.meaning.specs.Entries.{size_of, in_use}
 use Rattle.meaning.specs.Chain.{owned, place}
@@ -23,42 +26,39 @@ use Rattle.read.proofs.ReadParts.{map-run, fetch-append, length-fetch}
 use Rattle.file_runs.specs.Along.{Along}
 use Rattle.file_runs.specs.declared.FileRun.{FileRun}
 use Rattle.differences.specs.Compare.{parting}
-use Rattle.differences.proofs.Parting.{parting-none, parting-nothing, parting-on, parting-here, parting-past, parting-in}
+use Rattle.differences.proofs.Parting.{parting-none, parting-nothing, parting-on, parting-past, parting-in}
 use Rattle.compare_order.specs.Whole.{WholeDisk, StartsFile}
 
--- two parts are alike in the first i bytes
-pub record AlikeSoFar (a b : List ℕ) (i : ℕ) : Type 0 where
-  pub low : i ≤ length a
-  pub rest : parting a b ≡ i + parting (drop i a) (drop i b)
+-- two bytes held against each other, one of either part
+abbrev pub apart : ℕ × ℕ → Bool
+apart p = not (nat_eq p.0 p.1)
 
-module _ (a b : List ℕ) where
-  pub agree-start : AlikeSoFar a b 0
-  agree-start = record { low = omega arith; rest = sym (zero-add (parting a b)) }
+parting-le : (a b : List ℕ) → parting a b ≤ length a
+unfolding parting
+parting-le [] b = omega arith
+parting-le (x ∷ a) [] = omega arith
+parting-le (x ∷ a) (y ∷ b) = let h = parting-le a b in grind (arith, nat_tests)
 
-  module _ {i : ℕ} (l : length a ≡ length b) (h : i < length a) (k : AlikeSoFar a b i) where
-    cut : parting (drop i a) (drop i b) ≡ parting (get_or a i 0 ∷ drop (suc i) a) (get_or b i 0 ∷ drop (suc i) b)
-    cut = let p = drop-cons a i 0 h in let q = drop-cons b i 0 (omega arith) in λ j. parting (p j) (q j)
+first-apart : (a b : List ℕ) → length a ≡ length b → position_or_len apart (zip a b) ≡ parting a b
+unfolding parting
+first-apart [] b e = refl
+first-apart (x ∷ a) [] e = refl
+first-apart (x ∷ a) (y ∷ b) e = let h = first-apart a b (omega arith) in grind (arith, nat_tests)
 
-    pub agree_on : get_or a i 0 ≡ get_or b i 0 → AlikeSoFar a b (i + 1)
-    agree_on e =
-        let z : i + suc (parting (drop (suc i) a) (drop (suc i) b)) ≡ i + 1 + parting (drop (suc i) a) (drop (suc i) b) = omega arith in
-        record {
-          low = omega arith;
-          rest = k.rest ∙ ap (λ (x : ℕ). i + x) (cut ∙ parting-on (get_or a i 0) (get_or b i 0) (drop (suc i) a) (drop (suc i) b) e) ∙ z
-              ∙ ap (λ (x : ℕ). i + 1 + parting (drop x a) (drop x b)) (sym (add-one i));
-        }
+or-end : (n m k : ℕ) → n ≤ m → k ≡ m → unwrap_or (cond (ltb n k) (Some n) None) m ≡ n
+or-end n m k h e = grind (arith, nat_tests)
 
-    pub agree-stop : (get_or a i 0 ≡ get_or b i 0 → ⊥) → (i ≡ parting a b) × (i ≤ length a)
-    agree-stop e =
-        (sym (k.rest ∙ ap (λ (x : ℕ). i + x) (cut ∙ parting-here (get_or a i 0) (get_or b i 0) (drop (suc i) a) (drop (suc i) b) e) ∙ add-zero i), omega arith)
-
-  pub agree-end : {i : ℕ} → length a ≤ i → AlikeSoFar a b i → (length a ≡ parting a b) × (length a ≤ length a)
-  agree-end {i} h k =
-      let m = k.low in let e : length a ≡ i = omega arith in (
-        e ∙ sym (k.rest ∙ ap (λ (x : List ℕ). i + parting x (drop i b)) (drop_of_length-le a {i = i} h) ∙ ap (λ (x : ℕ). i + x) (parting-nothing (drop i b))
-            ∙ add-zero i),
-        omega arith,
-      )
+-- the first place where two parts of one length have other bytes, or their end
+pub found-apart : (a b : List ℕ) {r : Option ℕ} {n : ℕ} → length a ≡ length b
+    → r ≡ cond (ltb (position_or_len apart (zip a b)) (length (zip a b))) (Some (position_or_len apart (zip a b))) None → n ≡ unwrap_or r (length a)
+    → (n ≡ parting a b) × (n ≤ length a)
+found-apart a b {r} {n} e f q =
+    let l = parting-le a b in
+    let h = first-apart a b e in
+    let y : n ≡ parting a b
+    = q ∙ ap (λ (o : Option ℕ). unwrap_or o (length a)) (f ∙ (λ i. cond (ltb (h i) (length (zip a b))) (Some (h i)) None))
+    ∙ or-end (parting a b) (length a) (length (zip a b)) l (omega (arith, length-zip {A = ℕ} {B = ℕ} a b)) in
+    (y, omega arith)
 
 -- parts that are the same are alike to their end
 parting-self : (xs : List ℕ) → parting xs xs ≡ length xs

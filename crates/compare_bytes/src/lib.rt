@@ -1,13 +1,13 @@
 // Where the contents of two files part.
 #![tactic(auto)]
 
-ghost use Rattle.std.specs.Prelude.{◌≡◌, ◌+◌, ◌<◌, ◌≤◌, length};
+ghost use Rattle.std.specs.Prelude.{◌≡◌, ◌<◌, ◌≤◌, length};
 ghost use Rattle.meaning.specs.Entries.{size_of};
 ghost use Rattle.meaning.specs.Read.{fetch};
 ghost use Rattle.differences.specs.Compare.{parting};
 ghost use Rattle.compare_order.specs.Whole.{WholeDisk, StartsFile};
 
-use meaning::Geometry;
+use layout::Disk;
 
 // How many bytes at the start of two parts are alike.
 fn alike(a: &[u8], b: &[u8]) -> usize
@@ -17,12 +17,7 @@ fn alike(a: &[u8], b: &[u8]) -> usize
     if a == b {
         return a.len();
     }
-    for i in 0..a.len() {
-        if a[i] != b[i] {
-            return i;
-        }
-    }
-    a.len()
+    a.iter().zip(b).position(|(x, y)| x != y).unwrap_or(a.len())
 }
 
 // So many bytes are compared in one turn, at the most: where two files part at once, no more of a long run is looked at.
@@ -37,34 +32,26 @@ fn part(x: usize, y: usize, z: usize) -> usize
 }
 
 // The first position where the contents of two files part, or the smaller size: by as many bytes as lie in one run of both.
-pub fn parting_at(
-    first: &[u8],
-    g: Geometry,
-    second: &[u8],
-    h: Geometry,
-    s: usize,
-    t: usize,
-    n: usize,
-    m: usize,
-) -> usize
-    requires { WholeDisk g first.now × WholeDisk h second.now × StartsFile g first.now s × StartsFile h second.now t
-        × (n ≡ size_of g first.now s) × (m ≡ size_of h second.now t) × (n < 16777216) × (m < 16777216) }
-    ensures { result ≡ parting (fetch g first.now s 0 n) (fetch h second.now t 0 m) }
+pub fn parting_at(first: &Disk, second: &Disk, s: usize, t: usize, n: usize, m: usize) -> usize
+    requires { WholeDisk first.now.g first.now.image.now × WholeDisk second.now.g second.now.image.now × StartsFile first.now.g first.now.image.now s
+        × StartsFile second.now.g second.now.image.now t
+        × (n ≡ size_of first.now.g first.now.image.now s) × (m ≡ size_of second.now.g second.now.image.now t) × (n < 16777216) × (m < 16777216) }
+    ensures { result ≡ parting (fetch first.now.g first.now.image.now s 0 n) (fetch second.now.g second.now.image.now t 0 m) }
 {
     let end = n.min(m);
-    let mut a = file_runs::begin(first, g, s);
-    let mut b = file_runs::begin(second, h, t);
+    let mut a = file_runs::begin(first, s);
+    let mut b = file_runs::begin(second, t);
     let mut i = 0;
     // a turn goes on by as many bytes as lie in one run of both
     while i < end {
-        a = file_runs::reach(first, g, s, a, i);
-        b = file_runs::reach(second, h, t, b, i);
+        a = file_runs::reach(first, s, a, i);
+        b = file_runs::reach(second, t, b, i);
         let len = part(a.to - i, b.to - i, end - i);
         let p = a.at + (i - a.from);
         let q = b.at + (i - b.from);
         let pe = p + len;
         let qe = q + len;
-        let c = alike(&first[p..pe], &second[q..qe]);
+        let c = alike(&first.image[p..pe], &second.image[q..qe]);
         if c != len {
             return i + c;
         }

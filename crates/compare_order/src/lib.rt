@@ -4,13 +4,13 @@
 
 ghost use Rattle.std.specs.Prelude.{◌≡◌, ◌+◌, ◌<◌, ◌≤◌, length, get_or, MatchOption};
 ghost use Rattle.meaning.specs.Entries.{name_of};
-ghost use Rattle.layout.specs.Room.{Room, Slot};
+ghost use Rattle.layout.specs.Room.{Slot};
 ghost use Rattle.differences.specs.Compare.{before};
 ghost use Rattle.compare_order.specs.Whole.{WholeDisk, StartsFile};
 ghost use Rattle.compare_order.specs.Walk.{Merges, MergesNone};
 ghost use Rattle.compare_order.specs.Table.{InOrder, GoesTo, PutIn};
 
-use meaning::Geometry;
+use layout::Disk;
 use std::cmp::Ordering;
 
 // The files of one name, by their slots: only the first disk has one, only the second has, or both have.
@@ -22,33 +22,34 @@ pub enum Pair {
 }
 
 // The name of slot s.
-fn name(image: &[u8], g: Geometry, s: usize) -> &[u8]
-    requires { Room g image.now × Slot g image.now s }
-    ensures { result.now ≡ name_of g image.now s }
+fn name<'a>(disk: &Disk<'a>, s: usize) -> &'a [u8]
+    requires { Slot disk.now.g disk.now.image.now s }
+    ensures { result.now ≡ name_of disk.now.g disk.now.image.now s }
 {
-    let p = layout::name_at(image, g, s);
-    &image[p..p + 11]
+    let p = layout::name_at(disk.image, disk.g, s);
+    &disk.image[p..p + 11]
 }
 
 // Whether the name of slot s comes before that of slot t.
-fn slot_before(image: &[u8], g: Geometry, s: usize, t: usize) -> bool
-    requires { Room g image.now × Slot g image.now s × Slot g image.now t }
-    ensures { result ≡ before (name_of g image.now s) (name_of g image.now t) }
+fn slot_before(disk: &Disk, s: usize, t: usize) -> bool
+    requires { Slot disk.now.g disk.now.image.now s × Slot disk.now.g disk.now.image.now t }
+    ensures { result ≡ before (name_of disk.now.g disk.now.image.now s) (name_of disk.now.g disk.now.image.now t) }
 {
-    name(image, g, s) < name(image, g, t)
+    name(disk, s) < name(disk, t)
 }
 
 // Where slot s goes among the files of a table: behind those with an earlier name, found by halving. `partition_point` asks more: that its
 // test may be made of any byte, not only of a slot.
-fn place_for(image: &[u8], g: Geometry, order: &[u8], s: usize) -> usize
-    requires { WholeDisk g image.now × StartsFile g image.now s × InOrder g image.now order.now (length order.now) s }
-    ensures { GoesTo g image.now order.now (length order.now) s result }
+fn place_for(disk: &Disk, order: &[u8], s: usize) -> usize
+    requires { WholeDisk disk.now.g disk.now.image.now × StartsFile disk.now.g disk.now.image.now s
+        × InOrder disk.now.g disk.now.image.now order.now (length order.now) s }
+    ensures { GoesTo disk.now.g disk.now.image.now order.now (length order.now) s result }
 {
     let mut low = 0;
     let mut high = order.len();
     while low < high {
         let mid = (low + high) / 2;
-        if slot_before(image, g, usize::from(order[mid]), s) {
+        if slot_before(disk, usize::from(order[mid]), s) {
             low = mid + 1;
         } else {
             high = mid;
@@ -67,29 +68,30 @@ fn put_at(order: &mut [u8], n: usize, i: usize, x: u8)
 }
 
 // Slot s, after all slots below it: a file goes to its place in the table. How many are there then.
-fn visit(image: &[u8], g: Geometry, order: &mut [u8], n: usize, s: usize) -> usize
-    requires { WholeDisk g image.now × Slot g image.now s × InOrder g image.now order.old n s × (length order.old ≡ 256) }
-    ensures { InOrder g image.now order.new result (s + 1) × (length order.new ≡ 256) }
+fn visit(disk: &Disk, order: &mut [u8], n: usize, s: usize) -> usize
+    requires { WholeDisk disk.now.g disk.now.image.now × Slot disk.now.g disk.now.image.now s × InOrder disk.now.g disk.now.image.now order.old n s
+        × (length order.old ≡ 256) }
+    ensures { InOrder disk.now.g disk.now.image.now order.new result (s + 1) × (length order.new ≡ 256) }
 {
-    if !layout::primary(image, g, s) {
+    if !disk.primary(s) {
         return n;
     }
-    let i = place_for(image, g, &order[..n], s);
+    let i = place_for(disk, &order[..n], s);
     put_at(order, n, i, s as u8);
     n + 1
 }
 
 // The slots of all files, by rising names, in the table's first places; how many they are.
-pub fn sort(image: &[u8], g: Geometry, order: &mut [u8]) -> usize
-    requires { WholeDisk g image.now × (length order.old ≡ 256) }
-    ensures { InOrder g image.now order.new result 256 × (length order.new ≡ 256) }
+pub fn sort(disk: &Disk, order: &mut [u8]) -> usize
+    requires { WholeDisk disk.now.g disk.now.image.now × (length order.old ≡ 256) }
+    ensures { InOrder disk.now.g disk.now.image.now order.new result 256 × (length order.new ≡ 256) }
 {
-    let columns = layout::columns(image, g);
+    let columns = disk.columns();
     let mut n = 0;
     for row in 0..8 {
         let start = 32 * row;
         for s in start..start + columns {
-            n = visit(image, g, order, n, s);
+            n = visit(disk, order, n, s);
         }
     }
     n
@@ -104,25 +106,25 @@ fn slot_at(order: &[u8], i: usize) -> Option<usize>
 
 // The next name of either disk, where the files of i and j places of the two tables were met; none past the last.
 pub fn next_pair(
-    first: &[u8],
-    g: Geometry,
-    second: &[u8],
-    h: Geometry,
+    first: &Disk,
+    second: &Disk,
     ours: &[u8],
     i: usize,
     theirs: &[u8],
     j: usize,
 ) -> Option<Pair>
-    requires { WholeDisk g first.now × WholeDisk h second.now × InOrder g first.now ours.now (length ours.now) 256
-        × InOrder h second.now theirs.now (length theirs.now) 256 }
-    ensures { MatchOption result (MergesNone g first.now h second.now ours.now (length ours.now) i theirs.now (length theirs.now) j)
-        (λ p. Merges g first.now h second.now ours.now (length ours.now) i theirs.now (length theirs.now) j p) }
+    requires { WholeDisk first.now.g first.now.image.now × WholeDisk second.now.g second.now.image.now
+        × InOrder first.now.g first.now.image.now ours.now (length ours.now) 256
+        × InOrder second.now.g second.now.image.now theirs.now (length theirs.now) 256 }
+    ensures { MatchOption result (MergesNone first.now.g first.now.image.now second.now.g second.now.image.now ours.now (length ours.now) i theirs.now
+        (length theirs.now) j)
+        (λ p. Merges first.now.g first.now.image.now second.now.g second.now.image.now ours.now (length ours.now) i theirs.now (length theirs.now) j p) }
 {
     match (slot_at(ours, i), slot_at(theirs, j)) {
         (None, None) => None,
         (Some(s), None) => Some(Pair::First(s)),
         (None, Some(t)) => Some(Pair::Second(t)),
-        (Some(s), Some(t)) => match name(first, g, s).cmp(&name(second, h, t)) {
+        (Some(s), Some(t)) => match name(first, s).cmp(&name(second, t)) {
             Ordering::Less => Some(Pair::First(s)),
             Ordering::Greater => Some(Pair::Second(t)),
             Ordering::Equal => Some(Pair::Both(s, t)),

@@ -1,23 +1,20 @@
 -- What a create writes, answers and leaves.
 use mathlib.Core.Path.{◌≡◌, refl, sym, ap, ◌∙◌}
-use mathlib.Core.List.{List, [], ◌∷◌, ◌++◌}
+use mathlib.Core.List.{List, [], ◌∷◌}
 use mathlib.Core.Bool.{Bool, true, false, not}
-use Prim.Native.Nat.{ℕ, suc, ◌+◌, ◌/◌, ◌%◌, ◌≤◌, ◌<◌}
+use Prim.Native.Nat.{ℕ, suc, ◌/◌, ◌%◌, ◌≤◌, ◌<◌}
 use native.Mathlib.Omega.{arith}
-use lib.ListN.{length, set, take, drop, replicate}
-use lib.Seq.{sets, sets-eq, take_all}
+use lib.ListN.{length, take}
 use lib.Dec.{eqb}
 use borrow.Author.Tests.{ne_eqb, leb-true}
 use Rattle.meaning.specs.Lists.{count, all, first_or}
-use Rattle.meaning.specs.Layout.{entry_at, hit_at}
-use Rattle.meaning.specs.Names.{hash, well_formed, fold}
-use Rattle.meaning.specs.Entries.{date_byte}
+use Rattle.meaning.specs.Names.{well_formed, fold}
 use Rattle.meaning.specs.Free.{free_slots, free_slot, permitted}
 use Rattle.meaning.specs.Refusals.{name_refusal, first, check, new_in_range}
 use Rattle.meaning.specs.Handles.{no_handle}
 use Rattle.meaning.specs.LookUp.{named, missing, slot_of}
 use Rattle.meaning.specs.Open.{admits, opened_at}
-use Rattle.meaning.specs.Create.{new_entry, new_slot, with_entry, create_refusals, create}
+use Rattle.meaning.specs.Create.{new_slot, with_entry, create_refusals, create}
 use Rattle.meaning.specs.declared.Geometry.{Geometry}
 use Rattle.meaning.specs.declared.Handle.{Handle}
 use Rattle.meaning.specs.declared.NewFile.{NewFile}
@@ -36,21 +33,9 @@ pub ranges : (f : NewFile) → new_in_range f ≡ true → (f.day ≤ 31) × (f.
 unfolding new_in_range
 ranges f r = (leb-true _ _ (all-at _ r 0), leb-true _ _ (all-at _ r 1), leb-true _ _ (all-at _ r 2), length-range f.len (all-at _ r 3))
 
--- a new entry before its name is in it
-abbrev nameless : NewFile → List ℕ
-nameless f =
-    0x10 ∷ f.day ∷ date_byte f.year f.month ∷ 0 ∷ f.len % 256 ∷ (replicate 11 0 ++
-    (f.main % 256 ∷ f.main / 256 ∷ f.worker % 256 ∷ f.worker / 256 ∷ 0 ∷ 0 ∷ replicate 10 0xff))
-
--- its name put into it, and it into its slot
-pub entry_new : (g : Geometry) (d : List ℕ) (x : ℕ) (n : List ℕ) (f : NewFile) {b : List ℕ} {h : ℕ} → length n ≡ 11
-    → b ≡ sets (nameless f) 5 (take 11 (drop 0 n)) → h ≡ hash n → set (sets d (entry_at g x) b) (hit_at g x) h ≡ with_entry g d x n f
-entry_new g d x n f {b} {h} l a e =
-    let w : length (nameless f) ≡ 32 = refl in
-    let z : b ≡ new_entry n f
-    = a ∙ ap (sets (nameless f) 5) (take_all 11 n (omega arith)) ∙ sets-eq n (nameless f) 5 (omega arith)
-    ∙ ap (λ (k : ℕ). take 5 (nameless f) ++ n ++ drop (5 + k) (nameless f)) l in
-    ap (λ (y : List ℕ). set (sets d (entry_at g x) y) (hit_at g x) h) z ∙ ap (set (sets d (entry_at g x) (new_entry n f)) (hit_at g x)) e
+-- a number below 65536 in two bytes, low byte first
+pub two_bytes : (n : ℕ) → n < 65536 → n % 256 ∷ n / 256 % 256 ∷ [] ≡ n % 256 ∷ n / 256 ∷ []
+two_bytes n h = ap (λ (x : ℕ). n % 256 ∷ x ∷ []) (omega arith)
 
 -- the first free slot, if there is one
 module _ (g : Geometry) (d : List ℕ) where

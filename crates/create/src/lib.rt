@@ -1,14 +1,15 @@
 // Create.
 #![tactic(auto)]
 
-ghost use Rattle.std.specs.Prelude.{◌≡◌, false, true, ◌+◌, ◌*◌, ◌<◌, ◌≤◌, length};
+ghost use Rattle.std.specs.Prelude.{◌≡◌, false, true, ◌+◌, ◌<◌, ◌≤◌, length};
 ghost use Rattle.meaning.specs.Layout.{entry_at};
-ghost use Rattle.meaning.specs.Refusal.{carried};
 ghost use Rattle.meaning.specs.Refusals.{check, new_in_range};
 ghost use Rattle.meaning.specs.Handles.{no_handle};
 ghost use Rattle.meaning.specs.Create.{create, with_entry};
 
+use layout::Disk;
 use meaning::{Created, Geometry, Handle, NewFile, Refusal};
+use refusal::Why;
 
 // Date and record length are in range.
 #[tactic(auto, unfolding(meaning::specs::Refusals::new_in_range, meaning::specs::Lists::all))]
@@ -24,50 +25,24 @@ fn put_entry(image: &mut [u8], g: Geometry, x: usize, name: &[u8], f: NewFile)
     ensures { image.new ≡ with_entry g image.old x name.now f }
 {
     let date = f.year * 16 + f.month;
-    let mut entry: [u8; 32] = [
-        0x10,
-        f.day as u8,
-        date as u8,
-        0,
-        (f.len % 256) as u8,
-        0,
-        0,
-        0,
-        0,
-        0,
-        0,
-        0,
-        0,
-        0,
-        0,
-        0,
-        (f.main % 256) as u8,
-        (f.main / 256) as u8,
-        (f.worker % 256) as u8,
-        (f.worker / 256) as u8,
-        0,
-        0,
-        0xff,
-        0xff,
-        0xff,
-        0xff,
-        0xff,
-        0xff,
-        0xff,
-        0xff,
-        0xff,
-        0xff,
-    ];
-    copy::put_part(&mut entry, layout::NAME, name, 0, 11);
+    let mut entry = [0u8; 32];
+    entry[layout::BLOCKS..].fill(0xff);
+    entry[layout::FLAGS] = 0x10;
+    entry[layout::DAY] = f.day as u8;
+    entry[layout::MONTH] = date as u8;
+    entry[layout::RECORD_LENGTH] = (f.len % 256) as u8;
+    entry[layout::MAIN_CODE..layout::WORKER_CODE].copy_from_slice(&f.main.to_le_bytes());
+    entry[layout::WORKER_CODE..layout::SECTOR_COUNT].copy_from_slice(&f.worker.to_le_bytes());
+    entry[layout::NAME..layout::MAIN_CODE].copy_from_slice(name);
     entry::put(image, g, x, &entry, name_hash::hash(name));
 }
 
 // A refused create hands back a handle of zeros.
-fn refused(checked: Refusal, number: u8) -> Created
-    ensures { result ≡ record { refusal = carried checked number; old = false; handle = no_handle } }
+fn refused(refusal: Refusal) -> Created
+    ensures { result ≡ record { refusal = refusal; old = false; handle = no_handle } }
 {
     Created {
-        refusal: refusal::carried(checked, number),
+        refusal,
         old: false,
         handle: look_up::no_handle(),
     }
@@ -86,36 +61,33 @@ pub fn create_checked(
     ensures { (result, image.new) ≡ create g image.old name.now f checking }
 {
     if checked.number != 0 {
-        return refused(checked, checked.number);
+        return refused(checked);
     }
     if !in_range(f) {
-        return refused(checked, 12);
+        return refused(Why::OutOfRange.after(checked));
     }
     let n = name_spelling::incoming(name);
     if n.place != name_spelling::NO_PLACE {
-        return Created {
-            refusal: refusal::placed(3, n.place),
-            old: false,
-            handle: look_up::no_handle(),
-        };
+        return refused(Why::NotWellFormed.refusal_at(n.place));
     }
-    if let Some(slot) = look_up::find(image, g, &n.name).slot {
-        if !look_up::admits(image, g, slot, checking, f.main) {
-            return refused(checked, 5);
+    let disk = Disk { image, g };
+    if let Some(slot) = look_up::find(&disk, &n.name).slot {
+        if !look_up::admits(&disk, slot, checking, f.main) {
+            return refused(Why::WrongCode.after(checked));
         }
         return Created {
-            refusal: refusal::carried(checked, 0),
+            refusal: refusal::accepted(checked),
             old: true,
-            handle: look_up::opened_at(image, g, slot, &n.name, f.len, checking, f.main),
+            handle: look_up::opened_at(&disk, slot, &n.name, f.len, checking, f.main),
         };
     }
-    let x = match space::first_free_slot(image, g) {
+    let x = match space::first_free_slot(&disk) {
         Some(x) => x,
-        None => return refused(checked, 8),
+        None => return refused(Why::TooFewSlots.after(checked)),
     };
     put_entry(image, g, x, &n.name, f);
     Created {
-        refusal: refusal::carried(checked, 0),
+        refusal: refusal::accepted(checked),
         old: false,
         handle: Handle {
             slot: x,

@@ -10,6 +10,7 @@ ghost use Rattle.drives.specs.ByHandle.{read_record, read_sector, write_record, 
 ghost use Rattle.drives_calls.specs.Part.{part_of, one_of, DriveLies};
 
 use drives::{DriveAnswer, DriveCreated, DriveHandle, DriveLookedUp, DrivePart};
+use layout::Disk;
 use meaning::{Geometry, Mode, NewFile, Refusal};
 
 // Look up: the drive and the slot of the file of that name, and how many entries were compared on the drives searched.
@@ -25,13 +26,11 @@ pub fn look_up(
     ensures { result ≡ look_up (pair g0 image0.now g1 image1.now) numbered drive name.now }
 {
     if numbered {
-        if drive == 0 {
-            return drives_told::looked_up_on(0, 0, calls::look_up(image0, g0, name));
+        match drive {
+            0 => return drives_told::looked_up_on(0, 0, calls::look_up(image0, g0, name)),
+            1 => return drives_told::looked_up_on(1, 0, calls::look_up(image1, g1, name)),
+            _ => return drives_told::not_looked_up(drives_told::no_such_drive()),
         }
-        if drive == 1 {
-            return drives_told::looked_up_on(1, 0, calls::look_up(image1, g1, name));
-        }
-        return drives_told::not_looked_up(drives_told::no_such_drive());
     }
     let checked0 = calls::check(image0, g0);
     let checked1 = calls::check(image1, g1);
@@ -63,19 +62,17 @@ pub fn open_file(
     ensures { result ≡ open_file (pair g0 image0.now g1 image1.now) numbered drive name.now len checking code }
 {
     if numbered {
-        if drive == 0 {
-            return drives_told::opened_on(
+        match drive {
+            0 => return drives_told::opened_on(
                 0,
                 calls::open_file(image0, g0, name, len, checking, code),
-            );
-        }
-        if drive == 1 {
-            return drives_told::opened_on(
+            ),
+            1 => return drives_told::opened_on(
                 1,
                 calls::open_file(image1, g1, name, len, checking, code),
-            );
+            ),
+            _ => return drives_told::not_opened(drives_told::no_such_drive()),
         }
-        return drives_told::not_opened(drives_told::no_such_drive());
     }
     let checked0 = calls::check(image0, g0);
     let checked1 = calls::check(image1, g1);
@@ -118,7 +115,10 @@ fn takes(
     if second.refusal.number != 4 {
         return 1;
     }
-    match space::first_free_slot(image0, g0) {
+    match space::first_free_slot(&Disk {
+        image: image0,
+        g: g0,
+    }) {
         Some(_) => 0,
         None => 1,
     }
@@ -140,13 +140,11 @@ pub fn create(
         ≡ create (pair g0 image0.old g1 image1.old) numbered drive name.now f checking }
 {
     if numbered {
-        if drive == 0 {
-            return drives_told::created_on(0, calls::create(image0, g0, name, f, checking));
+        match drive {
+            0 => return drives_told::created_on(0, calls::create(image0, g0, name, f, checking)),
+            1 => return drives_told::created_on(1, calls::create(image1, g1, name, f, checking)),
+            _ => return drives_told::not_created(drives_told::no_such_drive()),
         }
-        if drive == 1 {
-            return drives_told::created_on(1, calls::create(image1, g1, name, f, checking));
-        }
-        return drives_told::not_created(drives_told::no_such_drive());
     }
     let checked0 = calls::check(image0, g0);
     let checked1 = calls::check(image1, g1);

@@ -8,6 +8,7 @@ ghost use Rattle.drives.specs.ByHandle.{unheld, part_on, no_part};
 
 use drives::{DriveAnswer, DriveCreated, DriveHandle, DriveLookedUp, DrivePart};
 use meaning::{Answer, Created, Handle, LookedUp, Part, Refusal};
+use refusal::Why;
 
 // told where a refusal names no drive
 pub const NO_DRIVE: usize = 2;
@@ -48,7 +49,7 @@ pub fn of_both(c: Refusal, c2: Refusal) -> Refusal
     ensures { result ≡ of_both c c2 }
 {
     match (c.number, c2.number) {
-        (0, 0) => refusal::unplaced(0),
+        (0, 0) => refusal::none(),
         (0, _) => naming(1, c2),
         _ => naming(0, c),
     }
@@ -57,7 +58,7 @@ pub fn of_both(c: Refusal, c2: Refusal) -> Refusal
 pub fn no_such_drive() -> Refusal
     ensures { result ≡ no_such_drive }
 {
-    refusal::unplaced(16)
+    Why::NoDrive.refusal()
 }
 
 // The drive that a call on drive n tells of: 0 on a refusal.

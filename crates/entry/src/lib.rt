@@ -8,55 +8,54 @@ ghost use Rattle.meaning.specs.Layout.{entry_at, hit_at};
 ghost use Rattle.meaning.specs.Entries.{name_of, sector_count, end_byte};
 ghost use Rattle.meaning.specs.Chain.{owned};
 ghost use Rattle.meaning.specs.Consistent.{follows_by, name_holds, size_holds, count_holds};
-ghost use Rattle.layout.specs.Room.{Room, Slot};
+ghost use Rattle.layout.specs.Room.{Slot};
 
+use layout::Disk;
 use meaning::Geometry;
 
 // The name of a slot, with its type.
-pub fn name_of(image: &[u8], g: Geometry, s: usize) -> [u8; 11]
-    requires { Room g image.now × Slot g image.now s }
-    ensures { result ≡ name_of g image.now s }
+pub fn name_of(disk: &Disk, s: usize) -> [u8; 11]
+    requires { Slot disk.now.g disk.now.image.now s }
+    ensures { result ≡ name_of disk.now.g disk.now.image.now s }
 {
-    let at = layout::name_at(image, g, s);
+    let at = layout::name_at(disk.image, disk.g, s);
     let mut name = [0u8; 11];
-    name.copy_from_slice(&image[at..at + 11]);
+    name.copy_from_slice(&disk.image[at..at + 11]);
     name
 }
 
 // Whether t is an extension that points back to s and has a run. Its flags are 90H where the file is in use, 80H where it is killed.
-pub fn follows(image: &[u8], g: Geometry, flags: usize, s: usize, t: usize) -> bool
-    requires { Room g image.now }
-    ensures { result ≡ follows_by g image.now flags s t }
+pub fn follows(disk: &Disk, flags: usize, s: usize, t: usize) -> bool
+    ensures { result ≡ follows_by disk.now.g disk.now.image.now flags s t }
 {
-    layout::is_slot(image, g, t)
-        && layout::field(image, g, t, layout::FLAGS) == flags
-        && layout::field(image, g, t, layout::BACK) == s
-        && 1 <= layout::runs(image, g, t)
+    disk.is_slot(t)
+        && disk.field(t, layout::FLAGS) == flags
+        && disk.field(t, layout::BACK) == s
+        && 1 <= disk.runs(t)
 }
 
 // The name is well formed, and bit 5 is zero.
-pub fn name_holds(image: &[u8], g: Geometry, s: usize) -> bool
-    requires { Room g image.now × Slot g image.now s }
-    ensures { result ≡ name_holds g image.now s }
+pub fn name_holds(disk: &Disk, s: usize) -> bool
+    requires { Slot disk.now.g disk.now.image.now s }
+    ensures { result ≡ name_holds disk.now.g disk.now.image.now s }
 {
-    name_spelling::well_formed(&name_of(image, g, s)) && !layout::flag(image, g, s, layout::ZERO)
+    name_spelling::well_formed(&name_of(disk, s)) && !disk.flag(s, layout::ZERO)
 }
 
 // n = 0 only with e = 0.
-fn count_holds(image: &[u8], g: Geometry, s: usize) -> bool
-    requires { Room g image.now × Slot g image.now s }
-    ensures { result ≡ count_holds (sector_count g image.now s) (end_byte g image.now s) }
+fn count_holds(disk: &Disk, s: usize) -> bool
+    requires { Slot disk.now.g disk.now.image.now s }
+    ensures { result ≡ count_holds (sector_count disk.now.g disk.now.image.now s) (end_byte disk.now.g disk.now.image.now s) }
 {
-    layout::word(image, g, s, layout::SECTOR_COUNT) != 0
-        || layout::field(image, g, s, layout::END_BYTE) == 0
+    disk.word(s, layout::SECTOR_COUNT) != 0 || disk.field(s, layout::END_BYTE) == 0
 }
 
 // Of the first entry of a file: n = 0 only with e = 0; the size fits the granules owned.
-pub fn size_holds(image: &[u8], g: Geometry, s: usize, granules: usize) -> bool
-    requires { Room g image.now × Slot g image.now s × (granules < 65536) × (granules ≡ length (owned g image.now s)) }
-    ensures { result ≡ size_holds g image.now s }
+pub fn size_holds(disk: &Disk, s: usize, granules: usize) -> bool
+    requires { Slot disk.now.g disk.now.image.now s × (granules < 65536) × (granules ≡ length (owned disk.now.g disk.now.image.now s)) }
+    ensures { result ≡ size_holds disk.now.g disk.now.image.now s }
 {
-    count_holds(image, g, s) && layout::size_of(image, g, s) <= layout::granule_bytes(g) * granules
+    count_holds(disk, s) && disk.size_of(s) <= layout::granule_bytes(disk.g) * granules
 }
 
 // A new entry in a slot, all 32 bytes of it, and the slot's HIT byte: of a file that is created, or of an extension.

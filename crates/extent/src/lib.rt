@@ -4,10 +4,11 @@
 ghost use Rattle.std.specs.Prelude.{◌≡◌, ◌≤◌, length};
 ghost use Rattle.meaning.specs.Layout.{granules_for};
 ghost use Rattle.meaning.specs.Entries.{entry_granules};
-ghost use Rattle.layout.specs.Room.{Room, Slot, Below};
+ghost use Rattle.layout.specs.Room.{Slot, Below};
 ghost use Rattle.seek.specs.Seek.{Walkable, Used};
 ghost use Rattle.extent.specs.Reach.{Reaches};
 
+use layout::Disk;
 use meaning::Geometry;
 
 // The last entry of a file, and how many granules the file owns.
@@ -27,32 +28,32 @@ pub fn granules_for(g: Geometry, n: usize) -> usize
 }
 
 // How many granules the runs of an entry hold.
-pub fn entry_length(image: &[u8], g: Geometry, s: usize) -> usize
-    requires { Room g image.now × Slot g image.now s }
-    ensures { Below 129 (length (entry_granules g image.now s)) result }
+pub fn entry_length(disk: &Disk, s: usize) -> usize
+    requires { Slot disk.now.g disk.now.image.now s }
+    ensures { Below 129 (length (entry_granules disk.now.g disk.now.image.now s)) result }
 {
     let mut n = 0;
-    for k in 0..layout::runs(image, g, s) {
-        n += layout::run_length(image, g, s, k);
+    for k in 0..disk.runs(s) {
+        n += disk.run_length(s, k);
     }
     n
 }
 
 // How far the file at slot s reaches.
-pub fn measure(image: &[u8], g: Geometry, s: usize) -> Extent
-    requires { Walkable g image.now × Used g image.now s }
-    ensures { Reaches g image.now s result }
+pub fn measure(disk: &Disk, s: usize) -> Extent
+    requires { Walkable disk.now.g disk.now.image.now × Used disk.now.g disk.now.image.now s }
+    ensures { Reaches disk.now.g disk.now.image.now s result }
 {
     let mut at = s;
     let mut last = s;
     let mut owned = 0;
-    for _ in 0..layout::slots(image, g) {
+    for _ in 0..disk.slots() {
         last = at;
-        owned += entry_length(image, g, at);
-        if layout::field(image, g, at, layout::MARKER) != layout::HANDS_ON {
+        owned += entry_length(disk, at);
+        if disk.field(at, layout::MARKER) != layout::HANDS_ON {
             return Extent { last, owned };
         }
-        at = layout::field(image, g, at, layout::LINK);
+        at = disk.field(at, layout::LINK);
     }
     Extent { last, owned }
 }

@@ -3,36 +3,31 @@
 #![tactic(auto)]
 
 ghost use Rattle.std.specs.Prelude.{◌≡◌, true, ◌+◌};
-ghost use Rattle.layout.specs.Room.{Room};
 ghost use Rattle.check_map.specs.Owners.{standing};
 ghost use Rattle.fault_clear.specs.Clear.{RunsClear, NamesClear, ClearThrough};
 
-use meaning::Geometry;
+use layout::Disk;
 
 // Slot s, after all slots below it: its entry, if it is in use, is taken off the owner map. Whether it could be.
-fn taken_off(image: &[u8], g: Geometry, s: usize, map: &mut [u8; 192]) -> bool
-    requires { Room g image.now × ClearThrough g image.now s (standing g image.now map.old) }
-    ensures { result ≡ true → ClearThrough g image.now (s + 1) (standing g image.now map.new) }
+fn taken_off(disk: &Disk, s: usize, map: &mut [u8; 192]) -> bool
+    requires { ClearThrough disk.now.g disk.now.image.now s (standing disk.now.g disk.now.image.now map.old) }
+    ensures { result ≡ true → ClearThrough disk.now.g disk.now.image.now (s + 1) (standing disk.now.g disk.now.image.now map.new) }
 {
-    if !layout::is_slot(image, g, s) {
+    if !disk.is_slot(s) || !disk.flag(s, layout::IN_USE) {
         return true;
     }
-    if !layout::flag(image, g, s, layout::IN_USE) {
-        return true;
-    }
-    let at = check_walk::entry_at(image, g, s);
-    check_walk::take_runs(image, g, s, at, map).is_some()
+    let at = check_walk::entry_at(disk, s);
+    check_walk::take_runs(disk, s, at, map).is_some()
 }
 
 // Of runs off the disk, GAT bits missing and shared granules: 26, 27 and 28.
-pub fn runs_clear(image: &[u8], g: Geometry) -> usize
-    requires { Room g image.now }
-    ensures { RunsClear g image.now result }
+pub fn runs_clear(disk: &Disk) -> usize
+    ensures { RunsClear disk.now.g disk.now.image.now result }
 {
     let mut map = [0u8; 192];
-    check_map::gat_map(image, g, &mut map);
+    check_map::gat_map(disk, &mut map);
     for s in 0..256 {
-        if !taken_off(image, g, s, &mut map) {
+        if !taken_off(disk, s, &mut map) {
             return s;
         }
     }
@@ -40,12 +35,12 @@ pub fn runs_clear(image: &[u8], g: Geometry) -> usize
 }
 
 // Of duplicate names, 24: all slots, or none that is known.
-pub fn names_clear(image: &[u8], g: Geometry) -> usize
-    requires { Room g image.now }
-    ensures { NamesClear g image.now result }
+pub fn names_clear(disk: &Disk) -> usize
+    ensures { NamesClear disk.now.g disk.now.image.now result }
 {
-    if check_names::names_differ(image, g) {
-        return 256;
+    if check_names::names_differ(disk) {
+        256
+    } else {
+        0
     }
-    0
 }

@@ -9,6 +9,7 @@ ghost use Rattle.meaning.specs.FreeSpace.{free_space};
 ghost use Rattle.free_space.specs.Pass.{Gat, EightBlocks, RoomLeft, BlockPassed, Tells, ended, longer, met};
 
 use meaning::{Geometry, Space};
+use refusal::Why;
 
 // What the pass has seen so far: the free granules of the stretches that have ended, those of the stretch that has not, and how long the
 // longest of those that have ended is.
@@ -93,7 +94,7 @@ fn octet(image: &[u8], g: Geometry, b: usize) -> Option<u64>
 }
 
 // Eight bytes that are all FFH.
-const ALL_TAKEN: u64 = 18446744073709551615;
+const ALL_TAKEN: u64 = u64::MAX;
 
 // The whole pass. The last stretch ends with the last block.
 fn pass(image: &[u8], g: Geometry) -> Seen
@@ -132,14 +133,14 @@ pub fn free_space(image: &[u8], g: Geometry) -> Space
 {
     if !layout::fits_geometry(image, g) {
         return Space {
-            refusal: refusal::unplaced(1),
+            refusal: Why::WrongGeometry.refusal(),
             free: 0,
             longest: 0,
         };
     }
     let seen = pass(image, g);
     Space {
-        refusal: refusal::unplaced(0),
+        refusal: refusal::none(),
         free: seen.free,
         longest: seen.longest,
     }

@@ -747,14 +747,14 @@ pub extern "C" fn genie_compare(
         *position = 0;
         *flags = 0;
         let c = refusal::short_of_two(calls::check(first, g), calls::check(second, h));
-        *image = layout::wide(c.image);
+        *image = usize::from(c.image);
         *fault_slot = c.at;
         return c.number;
     }
     let x = calls::compare(first, g, second, h, number);
-    *image = layout::wide(x.refusal.image);
+    *image = usize::from(x.refusal.image);
     *fault_slot = x.refusal.at;
-    *kind = layout::wide(x.kind);
+    *kind = usize::from(x.kind);
     *position = x.at;
     *flags = genie_codec::flags_of(x);
     if x.kind == 0 {

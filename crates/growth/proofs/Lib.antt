@@ -10,4 +10,3 @@ pub mod Grown
 pub mod Handed
 pub mod Roomy
 pub mod Longer
-pub mod Numbers

@@ -12,11 +12,10 @@ use Rattle.meaning.specs.Growth.{new_extension, with_extension}
 use Rattle.meaning.specs.declared.Geometry.{Geometry}
 use Rattle.growth.specs.Choose.{OnlyGat}
 
-pub extension-put : (g : Geometry) (p : ℕ) (d : List ℕ) (e x : ℕ) {d₁ d₂ d₃ : List ℕ} {at hash : ℕ} → hash ≡ byte d (hit_at g p) → d₁ ≡ set_link g d e 0xfe x
-    → at ≡ entry_at g x → d₂ ≡ sets d₁ at (new_extension e) → d₃ ≡ set d₂ (hit_at g x) hash → d₃ ≡ with_extension g p d e x
+pub extension-put : (g : Geometry) (p : ℕ) (d : List ℕ) (e x : ℕ) {d₁ d₂ : List ℕ} {hash : ℕ} → hash ≡ byte d (hit_at g p) → d₁ ≡ set_link g d e 0xfe x
+    → d₂ ≡ set (sets d₁ (entry_at g x) (new_extension e)) (hit_at g x) hash → d₂ ≡ with_extension g p d e x
 unfolding hit
-extension-put g p d e x {d₁} {d₂} {d₃} {at} {hash} h l a q s =
-    s ∙ ap₂ (λ (y : List ℕ) (v : ℕ). set y (hit_at g x) v) (q ∙ ap₂ (λ (y : List ℕ) (i : ℕ). sets y i (new_extension e)) l a) h
+extension-put g p d e x h l q = q ∙ ap₂ (λ (y : List ℕ) (v : ℕ). set (sets y (entry_at g x) (new_extension e)) (hit_at g x) v) l h
 
 pub extended-long : (g : Geometry) (p : ℕ) (d : List ℕ) (e x : ℕ) → length (with_extension g p d e x) ≡ length d
 unfolding set_field

@@ -251,9 +251,8 @@ module _ (g : Geometry) (p : ℕ) (lowest : Bool) where
         known = known-less g d c.now (λ n i e. c.alike n i ∙ e) w.known;
       })
 
-      pub turn-asks : Room g d × (1 ≤ length (free_granules g d)) × Known g d lowest next most
+      pub turn-asks : (1 ≤ length (free_granules g d)) × Known g d lowest next most
       turn-asks = (
-        c.room,
         omega (arith, c.growing.room, ap {B = ℕ} length (free-eq g d c.now c.alike)),
         known-less g c.now d (λ n i e. sym (c.alike n i) ∙ e) c.growing.known,
       )

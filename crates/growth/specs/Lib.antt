@@ -1,4 +1,3 @@
 pub mod Inside
 pub mod Choose
 pub mod Longer
-pub mod Number

@@ -11,31 +11,12 @@ ghost use Rattle.laws.specs.Steps.{Ready};
 ghost use Rattle.layout.specs.Room.{Room, Slot};
 ghost use Rattle.growth.specs.Inside.{Inside};
 ghost use Rattle.growth.specs.Choose.{choice_by, Known, Picked, Leaves};
-ghost use Rattle.growth.specs.Number.{number, number_of};
+ghost use Rattle.refusal.specs.Why.{number_of};
 ghost use Rattle.growth.specs.Longer.{longer, Further};
 
+use layout::Disk;
 use meaning::Geometry;
-
-// Why a file gets no further granules.
-#[derive(Clone, Copy, PartialEq, Eq)]
-pub enum CannotGrow {
-    NotAllowed,
-    TooFewGranules,
-    TooFewSlots,
-}
-
-impl CannotGrow {
-    // The refusal's number.
-    pub fn number(self) -> u8
-        ensures { result ≡ number self }
-    {
-        match self {
-            CannotGrow::NotAllowed => 11,
-            CannotGrow::TooFewGranules => 9,
-            CannotGrow::TooFewSlots => 8,
-        }
-    }
-}
+use refusal::Why;
 
 // Where a new run starts; by the second choice, how long the stretch there is.
 #[derive(Clone, Copy)]
@@ -87,32 +68,30 @@ fn put_extension(image: &mut [u8], g: Geometry, p: usize, e: usize, x: usize, wr
         0x90, e as u8, 0, 0, 0, 0, 0, 0, 0, 0, 0, 0, 0, 0, 0, 0, 0, 0, 0, 0, 0, 0, 0xff, 0xff,
         0xff, 0xff, 0xff, 0xff, 0xff, 0xff, 0xff, 0xff,
     ];
-    let at = layout::entry_at(image, g, x);
-    copy::put_part(image, at, &entry, 0, 32);
-    layout::set_hit(image, g, x, hash);
+    entry::put(image, g, x, &entry, hash);
 }
 
 // Where a new run starts: at the lowest free granule, of which none is below `next`; or at the low end of the longest free stretch, of which none
 // has more than `most` granules, and none of so many starts below `next`. No stretch gets longer as granules are taken: so the next one as long
 // is looked for upwards, and all of the disk only where there is none.
-fn choose(image: &[u8], g: Geometry, next: usize, most: usize, lowest: bool) -> Chosen
-    requires { Room g image.now × (1 ≤ length (free_granules g image.now)) × Known g image.now lowest next most }
-    ensures { Picked g image.now lowest result }
+fn choose(disk: &Disk, next: usize, most: usize, lowest: bool) -> Chosen
+    requires { (1 ≤ length (free_granules disk.now.g disk.now.image.now)) × Known disk.now.g disk.now.image.now lowest next most }
+    ensures { Picked disk.now.g disk.now.image.now lowest result }
 {
     if lowest {
         return Chosen {
-            at: growth_search::next_free(image, g, next),
+            at: growth_search::next_free(disk, next),
             most,
         };
     }
-    let s = growth_search::longest_from(image, g, next, most);
+    let s = growth_search::longest_from(disk, next, most);
     if most <= s.long {
         return Chosen {
             at: s.low,
             most: s.long,
         };
     }
-    let t = growth_search::longest_from(image, g, 0, most);
+    let t = growth_search::longest_from(disk, 0, most);
     Chosen {
         at: t.low,
         most: t.long,
@@ -120,11 +99,10 @@ fn choose(image: &[u8], g: Geometry, next: usize, most: usize, lowest: bool) -> 
 }
 
 // How many granules of `left` the last run takes at once: it ends before granule `after` and has `long`, and up to 32 of them.
-fn further(image: &[u8], g: Geometry, after: usize, long: usize, left: usize) -> usize
-    requires { Room g image.now }
-    ensures { Further g image.now after long left result }
+fn further(disk: &Disk, after: usize, long: usize, left: usize) -> usize
+    ensures { Further disk.now.g disk.now.image.now after long left result }
 {
-    let total = layout::granules(g);
+    let total = layout::granules(disk.g);
     if layout::MOST_RUN <= long {
         return 0;
     }
@@ -132,7 +110,7 @@ fn further(image: &[u8], g: Geometry, after: usize, long: usize, left: usize) ->
         return 0;
     }
     let most = left.min((layout::MOST_RUN - long).min(total - after));
-    growth_search::clear_from(image, g, after, most)
+    growth_search::clear_from(disk, after, most)
 }
 
 // k further granules for the file at slot p, whose last entry is at slot e, by 01's choice or by the second; whether that finds too few slots.
@@ -152,7 +130,7 @@ fn take_granules(
         × (writes ≡ true → fails (grow_by g p (choice_by g lowest) k image.old) ≡ false) }
     ensures { Leaves g p k lowest writes image.old result image.new }
 {
-    let end = growth_search::last_run(image, g, e);
+    let end = growth_search::last_run(&Disk { image, g }, e);
     let mut last = e;
     let mut runs = end.runs;
     let mut after = end.after;
@@ -162,7 +140,7 @@ fn take_granules(
     let mut slot = 0;
     let mut left = k;
     while 0 < left {
-        let m = further(image, g, after, long, left);
+        let m = further(&Disk { image, g }, after, long, left);
         if 0 < m {
             put_longer(image, g, last, runs - 1, after, m, writes);
             after += m;
@@ -171,7 +149,7 @@ fn take_granules(
             continue;
         }
         left -= 1;
-        let c = choose(image, g, next, most, lowest);
+        let c = choose(&Disk { image, g }, next, most, lowest);
         let n = c.at;
         next = n;
         most = c.most;
@@ -182,7 +160,7 @@ fn take_granules(
             runs += 1;
             continue;
         }
-        let x = match growth_search::next_slot(image, g, slot) {
+        let x = match growth_search::next_slot(&Disk { image, g }, slot) {
             Some(x) => x,
             None => return true,
         };
@@ -201,13 +179,14 @@ fn too_few_slots(image: &mut [u8], g: Geometry, p: usize, e: usize, k: usize, lo
     requires { Ready g image.old p × (e ≡ tail g p image.old) × (k ≤ length (free_granules g image.old)) }
     ensures { (result ≡ fails (grow_by g p (choice_by g lowest) k image.old)) × (image.new ≡ image.old) }
 {
-    let pairs = layout::PAIRS - layout::runs(image, g, e);
+    let disk = Disk { image, g };
+    let pairs = layout::PAIRS - disk.runs(e);
     if k <= pairs {
         return false;
     }
-    let end = growth_search::last_run(image, g, e);
+    let end = growth_search::last_run(&disk, e);
     if k - pairs <= layout::MOST_RUN - end.long {
-        if growth_search::all_clear(image, g, end.after, k - pairs) {
+        if growth_search::all_clear(&disk, end.after, k - pairs) {
             return false;
         }
     }
@@ -220,36 +199,37 @@ fn too_few_slots(image: &mut [u8], g: Geometry, p: usize, e: usize, k: usize, lo
 }
 
 // E: no growth.
-fn no_growth(image: &[u8], g: Geometry, s: usize) -> bool
-    requires { Room g image.now × Slot g image.now s }
-    ensures { result ≡ no_growth g image.now s }
+fn no_growth(disk: &Disk, s: usize) -> bool
+    requires { Slot disk.now.g disk.now.image.now s }
+    ensures { result ≡ no_growth disk.now.g disk.now.image.now s }
 {
-    layout::is_set(layout::field(image, g, s, layout::DAY), layout::NO_GROWTH)
+    layout::is_set(disk.field(s, layout::DAY), layout::NO_GROWTH)
 }
 
 // The file at slot p gets what it lacks of the granules wanted, or nothing is changed.
-pub fn grow(image: &mut [u8], g: Geometry, p: usize, wanted: usize) -> Result<(), CannotGrow>
+pub fn grow(image: &mut [u8], g: Geometry, p: usize, wanted: usize) -> Result<(), Why>
     requires { Ready g image.old p }
     ensures { (number_of result ≡ first (cannot_grow g image.old p (lacking g image.old p wanted)))
         × (image.new ≡ cond (accepted (number_of result)) (with_granules g image.old p (lacking g image.old p wanted)) image.old) }
 {
-    let x = extent::measure(image, g, p);
+    let disk = Disk { image, g };
+    let x = extent::measure(&disk, p);
     if wanted <= x.owned {
         return Ok(());
     }
     let k = wanted - x.owned;
-    if no_growth(image, g, p) {
-        return Err(CannotGrow::NotAllowed);
+    if no_growth(&disk, p) {
+        return Err(Why::NoGrowth);
     }
-    if growth_search::too_few(image, g, k) {
-        return Err(CannotGrow::TooFewGranules);
+    if growth_search::too_few(&disk, k) {
+        return Err(Why::TooFewGranules);
     }
     if !too_few_slots(image, g, p, x.last, k, true) {
         take_granules(image, g, p, x.last, k, true, true);
         return Ok(());
     }
     if too_few_slots(image, g, p, x.last, k, false) {
-        return Err(CannotGrow::TooFewSlots);
+        return Err(Why::TooFewSlots);
     }
     take_granules(image, g, p, x.last, k, false, true);
     Ok(())

@@ -4,10 +4,10 @@
 ghost use Rattle.std.specs.Prelude.{◌≡◌, ◌+◌, ◌*◌, ◌≤◌, ◌<◌, length, ltb, MatchOption};
 ghost use Rattle.meaning.specs.Layout.{granules, most_units};
 ghost use Rattle.meaning.specs.Free.{free_granules};
-ghost use Rattle.layout.specs.Room.{Room, Slot};
+ghost use Rattle.layout.specs.Room.{Slot};
 ghost use Rattle.growth_search.specs.Search.{Ends, IsClear, ClearFrom, AllClear, NextFree, LongestFrom, NextSlot};
 
-use meaning::Geometry;
+use layout::Disk;
 
 // The runs of an entry; the granule after the last of them, and how long that one is. `long` is 32 where there is none: who asks wants to know
 // whether the run can get longer, and one of 32 cannot.
@@ -26,43 +26,42 @@ pub struct Found {
 }
 
 // Whether fewer than k granules are free. From the last block on: growth takes the lowest granules, so that free ones are met soonest there.
-pub fn too_few(image: &[u8], g: Geometry, k: usize) -> bool
-    requires { Room g image.now }
-    ensures { result ≡ ltb (length (free_granules g image.now)) k }
+pub fn too_few(disk: &Disk, k: usize) -> bool
+    ensures { result ≡ ltb (length (free_granules disk.now.g disk.now.image.now)) k }
 {
     let mut n = 0;
-    let mut b = g.blocks;
+    let mut b = disk.g.blocks;
     // eight blocks a step, and those that are left one by one
     while 8 <= b {
         if k <= n {
             return false;
         }
         b -= 8;
-        n += space::free_in_eight(image, g, b);
+        n += space::free_in_eight(disk, b);
     }
     for rest in (0..b).rev() {
         if k <= n {
             return false;
         }
-        n += space::clear_bits(layout::gat_byte(image, g, rest), g.units);
+        n += space::clear_bits(layout::gat_byte(disk.image, disk.g, rest), disk.g.units);
     }
     n < k
 }
 
 // The lowest granule from `from` on that is clear in the GAT. A block that is taken is one step.
-pub fn next_free(image: &[u8], g: Geometry, from: usize) -> usize
-    requires { Room g image.now × (from ≤ granules g) }
-    ensures { NextFree g image.now from result }
+pub fn next_free(disk: &Disk, from: usize) -> usize
+    requires { from ≤ granules disk.now.g }
+    ensures { NextFree disk.now.g disk.now.image.now from result }
 {
-    let total = layout::granules(g);
+    let total = layout::granules(disk.g);
     let mut n = from;
     // a step is a granule or a block: no `for`
     while n < total {
-        if space::block_taken(image, g, n) {
-            n += g.units;
+        if space::block_taken(disk, n) {
+            n += disk.g.units;
             continue;
         }
-        if !layout::taken(image, g, n) {
+        if !disk.taken(n) {
             return n;
         }
         n += 1;
@@ -71,16 +70,16 @@ pub fn next_free(image: &[u8], g: Geometry, from: usize) -> usize
 }
 
 // The longest free stretch from `from` on, the lower of two as long. The first of `most` granules ends the search.
-pub fn longest_from(image: &[u8], g: Geometry, from: usize, most: usize) -> Found
-    requires { Room g image.now × (from ≤ granules g) }
-    ensures { LongestFrom g image.now from most result }
+pub fn longest_from(disk: &Disk, from: usize, most: usize) -> Found
+    requires { from ≤ granules disk.now.g }
+    ensures { LongestFrom disk.now.g disk.now.image.now from most result }
 {
-    let total = layout::granules(g);
+    let total = layout::granules(disk.g);
     let mut here = 0;
     let mut low = from;
     let mut long = 0;
     for n in from..total {
-        if layout::taken(image, g, n) {
+        if disk.taken(n) {
             here = 0;
             continue;
         }
@@ -98,13 +97,13 @@ pub fn longest_from(image: &[u8], g: Geometry, from: usize, most: usize) -> Foun
 }
 
 // The first free permitted slot from `from` on, if there is one.
-pub fn next_slot(image: &[u8], g: Geometry, from: usize) -> Option<usize>
-    requires { Room g image.now × (from ≤ 256) }
-    ensures { MatchOption result (NextSlot g image.now from 256) (λ s. NextSlot g image.now from s × (s < 256)) }
+pub fn next_slot(disk: &Disk, from: usize) -> Option<usize>
+    requires { from ≤ 256 }
+    ensures { MatchOption result (NextSlot disk.now.g disk.now.image.now from 256) (λ s. NextSlot disk.now.g disk.now.image.now from s × (s < 256)) }
 {
-    let n = layout::columns(image, g);
+    let n = disk.columns();
     for s in from..256 {
-        if layout::hit(image, g, s) == 0 && s % 32 < n && space::kept_columns(g, s / 32) <= s % 32 {
+        if disk.hit(s) == 0 && s % 32 < n && space::kept_columns(disk.g, s / 32) <= s % 32 {
             return Some(s);
         }
     }
@@ -112,11 +111,11 @@ pub fn next_slot(image: &[u8], g: Geometry, from: usize) -> Option<usize>
 }
 
 // The runs of the entry at slot e, and where the last of them ends.
-pub fn last_run(image: &[u8], g: Geometry, e: usize) -> Ending
-    requires { Room g image.now × Slot g image.now e }
-    ensures { Ends g image.now e result }
+pub fn last_run(disk: &Disk, e: usize) -> Ending
+    requires { Slot disk.now.g disk.now.image.now e }
+    ensures { Ends disk.now.g disk.now.image.now e result }
 {
-    let runs = layout::runs(image, g, e);
+    let runs = disk.runs(e);
     if runs == 0 {
         return Ending {
             runs,
@@ -124,59 +123,57 @@ pub fn last_run(image: &[u8], g: Geometry, e: usize) -> Ending
             long: 32,
         };
     }
-    let long = layout::run_length(image, g, e, runs - 1);
+    let long = disk.run_length(e, runs - 1);
     Ending {
         runs,
-        after: layout::run_start(image, g, e, runs - 1) + long,
+        after: disk.run_start(e, runs - 1) + long,
         long,
     }
 }
 
 // Whether granule n is on the disk and clear in the GAT.
-pub fn is_clear(image: &[u8], g: Geometry, n: usize) -> bool
-    requires { Room g image.now }
-    ensures { IsClear g image.now n result }
+pub fn is_clear(disk: &Disk, n: usize) -> bool
+    ensures { IsClear disk.now.g disk.now.image.now n result }
 {
-    n < layout::granules(g) && !layout::taken(image, g, n)
+    n < layout::granules(disk.g) && !disk.taken(n)
 }
 
 // How many granules of block b are clear from unit u on, up to the first that is taken, n at the most: a bit set behind the last ends the count.
-fn units_clear(image: &[u8], g: Geometry, b: usize, u: usize, n: usize) -> usize
-    requires { (256 * g.start + b < length image.now) × (u + n ≤ g.units) × (g.units ≤ most_units) }
-    ensures { ClearFrom g image.now (b * g.units + u) n result }
+fn units_clear(disk: &Disk, b: usize, u: usize, n: usize) -> usize
+    requires { (256 * disk.now.g.start + b < length disk.now.image.now) × (u + n ≤ disk.now.g.units) }
+    ensures { ClearFrom disk.now.g disk.now.image.now (b * disk.now.g.units + u) n result }
 {
-    let x = layout::gat_byte(image, g, b);
+    let x = layout::gat_byte(disk.image, disk.g, b);
     usize::trailing_zeros((x >> u) | (1 << n)) as usize
 }
 
 // How many granules are clear from a on, up to the first that is taken, n at the most: block by block.
-pub fn clear_from(image: &[u8], g: Geometry, a: usize, n: usize) -> usize
-    requires { Room g image.now × (a + n ≤ granules g) }
-    ensures { ClearFrom g image.now a n result }
+pub fn clear_from(disk: &Disk, a: usize, n: usize) -> usize
+    requires { a + n ≤ granules disk.now.g }
+    ensures { ClearFrom disk.now.g disk.now.image.now a n result }
 {
-    let mut b = a / g.units;
-    let mut u = a % g.units;
+    let mut b = a / disk.g.units;
+    let mut u = a % disk.g.units;
     let mut left = n;
     // a step is what is left of a block: no `for`
-    while g.units < u + left {
-        let m = units_clear(image, g, b, u, g.units - u);
-        if m < g.units - u {
+    while disk.g.units < u + left {
+        let m = units_clear(disk, b, u, disk.g.units - u);
+        if m < disk.g.units - u {
             return n - left + m;
         }
-        left -= g.units - u;
+        left -= disk.g.units - u;
         b += 1;
         u = 0;
     }
-    n - left + units_clear(image, g, b, u, left)
+    n - left + units_clear(disk, b, u, left)
 }
 
 // Whether granules n to n + many - 1 are on the disk and clear in the GAT.
-pub fn all_clear(image: &[u8], g: Geometry, n: usize, many: usize) -> bool
-    requires { Room g image.now }
-    ensures { AllClear g image.now n many result }
+pub fn all_clear(disk: &Disk, n: usize, many: usize) -> bool
+    ensures { AllClear disk.now.g disk.now.image.now n many result }
 {
     for met in 0..many {
-        if !is_clear(image, g, n + met) {
+        if !is_clear(disk, n + met) {
             return false;
         }
     }

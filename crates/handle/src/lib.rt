@@ -7,10 +7,11 @@ ghost use Rattle.meaning.specs.Lists.{all};
 ghost use Rattle.meaning.specs.Layout.{sector_numbers};
 ghost use Rattle.meaning.specs.Refusals.{first, check, handle_refusals, not_for_reading, protected};
 ghost use Rattle.meaning.specs.Handles.{good_length, in_range, fresh};
-ghost use Rattle.layout.specs.Room.{Room};
 ghost use Rattle.refusal.specs.Passes.{Passes};
 
+use layout::Disk;
 use meaning::{Geometry, Handle, Refusal};
+use refusal::Why;
 
 // Record length 1 to 256.
 pub fn good_length(len: usize) -> bool
@@ -34,14 +35,17 @@ pub fn sector_ranged(g: Geometry, h: Handle, k: usize) -> bool
 }
 
 // Whether the handle is not stale.
-pub fn fresh(image: &[u8], g: Geometry, h: Handle) -> bool
-    requires { Room g image.now }
-    ensures { result ≡ fresh g image.now h }
+pub fn fresh(disk: &Disk, h: Handle) -> bool
+    ensures { result ≡ fresh disk.now.g disk.now.image.now h }
 {
     let name = h.name;
-    layout::is_slot(image, g, h.slot)
-        && layout::primary(image, g, h.slot)
-        && layout::same_name(image, layout::name_at(image, g, h.slot), &name)
+    disk.is_slot(h.slot)
+        && disk.primary(h.slot)
+        && layout::same_name(
+            disk.image,
+            layout::name_at(disk.image, disk.g, h.slot),
+            &name,
+        )
 }
 
 // Ok, or the refusal that is told.
@@ -59,10 +63,10 @@ pub fn admits(
         return Err(checked);
     }
     if !ranged {
-        return Err(refusal::unplaced(12));
+        return Err(Why::OutOfRange.refusal());
     }
-    if !fresh(image, g, h) {
-        return Err(refusal::unplaced(7));
+    if !fresh(&Disk { image, g }, h) {
+        return Err(Why::Stale.refusal());
     }
     Ok(())
 }
@@ -80,7 +84,7 @@ pub fn admits_reading(
 {
     admits(image, g, h, ranged, checked)?;
     if 5 < h.level {
-        return Err(refusal::unplaced(6));
+        return Err(Why::NotAllowed.refusal());
     }
     Ok(())
 }
@@ -98,8 +102,9 @@ pub fn admits_changing(
     ensures { Passes checked (first (handle_refusals g image.now h ranged (protected g image.now most h ∷ []))) result }
 {
     admits(image, g, h, ranged, checked)?;
-    if most < h.level || layout::system(image, g, h.slot) {
-        return Err(refusal::unplaced(6));
+    let disk = Disk { image, g };
+    if most < h.level || disk.system(h.slot) {
+        return Err(Why::NotAllowed.refusal());
     }
     Ok(())
 }

@@ -18,7 +18,7 @@ pub fn kill_checked(image: &mut [u8], g: Geometry, h: Handle, checked: Refusal) 
     }
     space::kill_file(image, g, h.slot);
     Answer {
-        refusal: refusal::carried(checked, 0),
+        refusal: refusal::accepted(checked),
         handle: h,
     }
 }

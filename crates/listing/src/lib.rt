@@ -1,42 +1,38 @@
 // The listing: one file a call, and the counts FILES and FREE. `checked` is the answer of the check of the whole disk.
 #![tactic(auto)]
 
-ghost use Rattle.std.specs.Prelude.{◌≡◌, [], ◌∷◌, ◌+◌, ◌*◌, ◌<◌, ◌≤◌, length, drop, MatchOption};
+ghost use Rattle.std.specs.Prelude.{◌≡◌, [], ◌∷◌, ◌+◌, ◌≤◌, length, drop, MatchOption};
 ghost use Rattle.std.proofs.lemmas.List.Edits.{sets};
 ghost use Rattle.meaning.specs.Lists.{all};
 ghost use Rattle.meaning.specs.Entries.{in_use_primary};
 ghost use Rattle.meaning.specs.Listing.{no_file, shown, listed, tell_first, list, counts};
 ghost use Rattle.meaning.specs.Refusals.{check};
 ghost use Rattle.list_rows.specs.Rows.{row, rows_from, list_from};
-ghost use Rattle.layout.specs.Room.{Room, Slot};
+ghost use Rattle.layout.specs.Room.{Slot};
 ghost use Rattle.seek.specs.Seek.{Walkable, Used};
 ghost use Rattle.listing.specs.From.{listed_from, NextListed};
 
+use layout::Disk;
 use list_rows::Rows;
 use meaning::{Counts, Geometry, Listed, Refusal};
+use refusal::Why;
 
 const ROW_BYTES: usize = 20;
 
 // Whether a file that is listed starts at slot s: a primary entry in use, without the system flag.
-fn tells(image: &[u8], g: Geometry, s: usize) -> bool
-    requires { Room g image.now × Slot g image.now s }
-    ensures { result ≡ all (in_use_primary g image.now s ∷ shown g image.now s ∷ []) }
+fn tells(disk: &Disk, s: usize) -> bool
+    requires { Slot disk.now.g disk.now.image.now s }
+    ensures { result ≡ all (in_use_primary disk.now.g disk.now.image.now s ∷ shown disk.now.g disk.now.image.now s ∷ []) }
 {
-    layout::primary(image, g, s) && !layout::system(image, g, s)
+    disk.primary(s) && !disk.system(s)
 }
 
 // The first slot from `from` on at which a file that is listed starts.
-fn next_listed(image: &[u8], g: Geometry, from: usize) -> Option<usize>
-    requires { Room g image.now }
-    ensures { MatchOption result (listed_from g image.now from ≡ []) (λ s. NextListed g image.now from s) }
+fn next_listed(disk: &Disk, from: usize) -> Option<usize>
+    ensures { MatchOption result (listed_from disk.now.g disk.now.image.now from ≡ []) (λ s. NextListed disk.now.g disk.now.image.now from s) }
 {
-    let columns = layout::columns(image, g);
-    for s in from..256 {
-        if s % 32 < columns && tells(image, g, s) {
-            return Some(s);
-        }
-    }
-    None
+    let columns = disk.columns();
+    (from..256).find(|s| s % 32 < columns && tells(disk, *s))
 }
 
 // Nothing told of a file: a refusal, or "no more".
@@ -53,34 +49,34 @@ fn no_file(c: Refusal) -> Listed
 }
 
 // The file at slot s: name, size, granules owned.
-fn tell(image: &[u8], g: Geometry, s: usize) -> Listed
-    requires { Walkable g image.now × Used g image.now s }
-    ensures { result ≡ tell_first g image.now (s ∷ []) }
+fn tell(disk: &Disk, s: usize) -> Listed
+    requires { Walkable disk.now.g disk.now.image.now × Used disk.now.g disk.now.image.now s }
+    ensures { result ≡ tell_first disk.now.g disk.now.image.now (s ∷ []) }
 {
     Listed {
-        refusal: refusal::unplaced(0),
+        refusal: refusal::none(),
         more: true,
-        name: entry::name_of(image, g, s),
-        size: layout::size_of(image, g, s),
-        granules: extent::measure(image, g, s).owned,
+        name: entry::name_of(disk, s),
+        size: disk.size_of(s),
+        granules: extent::measure(disk, s).owned,
     }
 }
 
 // The listed file of that number, by rising slot number; or "no more".
-fn told(image: &[u8], g: Geometry, number: usize) -> Listed
-    requires { Walkable g image.now }
-    ensures { result ≡ tell_first g image.now (drop number (listed g image.now)) }
+fn told(disk: &Disk, number: usize) -> Listed
+    requires { Walkable disk.now.g disk.now.image.now }
+    ensures { result ≡ tell_first disk.now.g disk.now.image.now (drop number (listed disk.now.g disk.now.image.now)) }
 {
     let mut left = number;
     let mut from = 0;
-    while let Some(s) = next_listed(image, g, from) {
+    while let Some(s) = next_listed(disk, from) {
         if left == 0 {
-            return tell(image, g, s);
+            return tell(disk, s);
         }
         left -= 1;
         from = s + 1;
     }
-    no_file(refusal::unplaced(0))
+    no_file(refusal::none())
 }
 
 // List, of a disk whose check answered `checked`.
@@ -91,17 +87,16 @@ pub fn list_checked(image: &[u8], g: Geometry, number: usize, checked: Refusal) 
     if checked.number != 0 {
         return no_file(checked);
     }
-    told(image, g, number)
+    told(&Disk { image, g }, number)
 }
 
 // FILES: how many files are listed.
-fn files_count(image: &[u8], g: Geometry) -> usize
-    requires { Room g image.now }
-    ensures { result ≡ length (listed g image.now) }
+fn files_count(disk: &Disk) -> usize
+    ensures { result ≡ length (listed disk.now.g disk.now.image.now) }
 {
     let mut n = 0;
     let mut from = 0;
-    while let Some(s) = next_listed(image, g, from) {
+    while let Some(s) = next_listed(disk, from) {
         n += 1;
         from = s + 1;
     }
@@ -120,20 +115,21 @@ pub fn counts_checked(image: &[u8], g: Geometry, checked: Refusal) -> Counts
             free: 0,
         };
     }
+    let disk = Disk { image, g };
     Counts {
         refusal: checked,
-        files: files_count(image, g),
-        free: space::free_count(image, g),
+        files: files_count(&disk),
+        free: space::free_count(&disk),
     }
 }
 
 // The row of the file at slot s goes to the table's 20 bytes from `to` on.
-fn put_row(image: &[u8], g: Geometry, s: usize, table: &mut [u8], to: usize)
-    requires { Walkable g image.now × Used g image.now s × (to + 20 ≤ length table.old) }
-    ensures { table.new ≡ sets table.old to (row g image.now s) }
+fn put_row(disk: &Disk, s: usize, table: &mut [u8], to: usize)
+    requires { Walkable disk.now.g disk.now.image.now × Used disk.now.g disk.now.image.now s × (to + 20 ≤ length table.old) }
+    ensures { table.new ≡ sets table.old to (row disk.now.g disk.now.image.now s) }
 {
-    let size = layout::size_of(image, g, s).to_le_bytes();
-    let granules = extent::measure(image, g, s).owned.to_le_bytes();
+    let size = disk.size_of(s).to_le_bytes();
+    let granules = extent::measure(disk, s).owned.to_le_bytes();
     let numbers = [
         s as u8,
         size[0],
@@ -145,25 +141,25 @@ fn put_row(image: &[u8], g: Geometry, s: usize, table: &mut [u8], to: usize)
         0,
         0,
     ];
-    let name = entry::name_of(image, g, s);
+    let name = entry::name_of(disk, s);
     copy::put_part(table, to, &name, 0, 11);
     copy::put_part(table, to + 11, &numbers, 0, 9);
 }
 
 // The rows of the listed files from that number on, as many as fit; how many.
-fn put_rows(image: &[u8], g: Geometry, number: usize, table: &mut [u8]) -> usize
-    requires { Walkable g image.now }
-    ensures { (result, table.new) ≡ rows_from g image.now number table.old }
+fn put_rows(disk: &Disk, number: usize, table: &mut [u8]) -> usize
+    requires { Walkable disk.now.g disk.now.image.now }
+    ensures { (result, table.new) ≡ rows_from disk.now.g disk.now.image.now number table.old }
 {
     let mut left = number;
     let mut n = 0;
     let mut from = 0;
-    while let Some(s) = next_listed(image, g, from) {
+    while let Some(s) = next_listed(disk, from) {
         if left == 0 {
             if table.len() < ROW_BYTES * n + ROW_BYTES {
                 return n;
             }
-            put_row(image, g, s, table, ROW_BYTES * n);
+            put_row(disk, s, table, ROW_BYTES * n);
             n += 1;
         } else {
             left -= 1;
@@ -192,12 +188,12 @@ pub fn list_from_checked(
     }
     if table.len() < ROW_BYTES {
         return Rows {
-            refusal: refusal::unplaced(12),
+            refusal: Why::OutOfRange.refusal(),
             told: 0,
         };
     }
     Rows {
         refusal: checked,
-        told: put_rows(image, g, number, table),
+        told: put_rows(&Disk { image, g }, number, table),
     }
 }

@@ -10,27 +10,14 @@ use lib.Dec.{eqb, leb}
 use borrow.Author.Tests.{le-leb, lt-leb, lt-ltb, le-ltb, eq-eqb, ne_eqb, ltb-false, not-false}
 use Rattle.meaning.specs.Refusals.{first}
 use Rattle.lists.specs.Tests.{first-hit, first-skip, first-none, first-at, not_yes, not-no, is-yes, is-no, any-skip, any-one, not-both}
-use Rattle.load.specs.Records.{data_code, start_code, comment_code, is_code, data_bytes, follows, bad_count, code_at, count_at, end_of, item_refusals}
+use Rattle.load.specs.Records.{data_code, start_code, comment_code, is_code, follows, bad_count, code_at, count_at, end_of, item_refusals}
 use Rattle.load.specs.Records.{item_at, position_of}
 use Rattle.load.specs.declared.Item.{Item}
 use Rattle.load_record.specs.Program.{broken, Looked}
 
--- 2 + data_bytes, by the two cases of the code
-pub rest-few : (c n : ℕ) → c ≡ data_code → n < 2 → 256 + n ≡ follows c n
-unfolding follows data_bytes
-rest-few c n e l = rw (eq-eqb c data_code e, lt-ltb n 2 l) (omega arith)
-
-pub rest-data : (c n : ℕ) → c ≡ data_code → 2 ≤ n → n ≡ follows c n
-unfolding follows data_bytes
-rest-data c n e l = rw (eq-eqb c data_code e, le-ltb n 2 l) (omega arith)
-
-pub rest-start : (c n : ℕ) → (c ≡ data_code → ⊥) → c ≡ start_code → 2 ≡ follows c n
+rest-start : (c n : ℕ) → (c ≡ data_code → ⊥) → c ≡ start_code → 2 ≡ follows c n
 unfolding follows
 rest-start c n z e = rw (ne_eqb c data_code z, eq-eqb c start_code e)
-
-pub rest-comment : (c n : ℕ) → (c ≡ data_code → ⊥) → (c ≡ start_code → ⊥) → n ≡ follows c n
-unfolding follows
-rest-comment c n z y = rw (ne_eqb c data_code z, ne_eqb c start_code y)
 
 -- behind every code but a comment's stand two bytes at the least
 code-five : (c : ℕ) → is_code c ≡ true → (c ≡ data_code → ⊥) → (c ≡ start_code → ⊥) → eqb c comment_code ≡ true

@@ -36,8 +36,8 @@ module _ (bs : List ℕ) (i : ℕ) where
   pub passing-start : PassingRecords i
   passing-start = record { left = length bs; enough = omega arith; rest = refl }
 
-  pub passing_step : {p : ℕ} {x : Item} → PassingRecords p → Looked bs p x → x.code ≡ comment_code → PassingRecords (p + 2 + x.rest)
-  passing_step {p} {x} q l c = by q.left q.enough q.rest
+  pub passing_step : {p t : ℕ} {x : Item} → t ≡ p + 2 + x.rest → PassingRecords p → Looked bs p x → x.code ≡ comment_code → PassingRecords t
+  passing_step {p} {t} {x} a q l c = rw a (by q.left q.enough q.rest)
     where
       by : (n : ℕ) → length bs ≤ n + p → past bs (length bs) i ≡ past bs n p → PassingRecords (p + 2 + x.rest)
       by zero h e = let w = comment-whole bs l c in absurd (let z : ⊥ = omega arith in z)

@@ -6,10 +6,11 @@ ghost use Rattle.meaning.specs.Lists.{all};
 ghost use Rattle.meaning.specs.Refusals.{check};
 ghost use Rattle.meaning.specs.Handles.{in_range};
 ghost use Rattle.layout.specs.Room.{Read};
-ghost use Rattle.load.specs.Records.{data_code, is_code, follows, bad_count, item_at, told_at, record_from};
+ghost use Rattle.load.specs.Records.{data_code, is_code, follows, bad_count, told_at, record_from};
 ghost use Rattle.load.specs.Load.{bytes_of, most_bytes, load_record};
 ghost use Rattle.load_record.specs.Program.{Program, broken, Looked, Found};
 
+use layout::Disk;
 use load::{Item, Loaded, NextRecord};
 use meaning::{Geometry, Handle, Refusal};
 
@@ -30,25 +31,18 @@ const WRONG_COUNT: u8 = 33;
 const MOST_BYTES: usize = 255;
 
 // Byte i of a file.
-pub fn byte_at(image: &[u8], g: Geometry, s: usize, size: usize, i: usize) -> usize
-    requires { Program g image.now s size × (i < size) }
-    ensures { Read (get_or (bytes_of g image.now s) i 0) result }
+pub fn byte_at(disk: &Disk, s: usize, size: usize, i: usize) -> usize
+    requires { Program disk.now.g disk.now.image.now s size × (i < size) }
+    ensures { Read (get_or (bytes_of disk.now.g disk.now.image.now s) i 0) result }
 {
-    let p = seek::place(image, g, s, i);
-    usize::from(image[p])
+    usize::from(disk.image[seek::place(disk, s, i)])
 }
 
+#[tactic(auto, unfolding(load::specs::Records::is_code, meaning::specs::Lists::any))]
 fn is_code(c: usize) -> bool
     ensures { result ≡ is_code c }
 {
-    // `||` and `matches!` leave goals whose steps have no name to cite
-    if c == DATA {
-        return true;
-    }
-    if c == START {
-        return true;
-    }
-    c == COMMENT
+    matches!(c, DATA | START | COMMENT)
 }
 
 fn bad_count(c: usize, n: usize) -> bool
@@ -58,20 +52,16 @@ fn bad_count(c: usize, n: usize) -> bool
 }
 
 // How many bytes follow code c and count n.
+#[tactic(auto, unfolding(load::specs::Records::follows, load::specs::Records::data_bytes))]
 fn follows(c: usize, n: usize) -> usize
     requires { n < 256 }
     ensures { (result ≡ follows c n) × (result ≤ 257) }
 {
-    if c == DATA {
-        if n < 2 {
-            return 256 + n;
-        }
-        return n;
+    match c {
+        DATA if n < 2 => 256 + n,
+        START => 2,
+        _ => n,
     }
-    if c == START {
-        return 2;
-    }
-    n
 }
 
 // No whole record or comment.
@@ -87,21 +77,21 @@ fn broken(number: u8, position: usize) -> Item
 }
 
 // What stands at place i of a file.
-pub fn item(image: &[u8], g: Geometry, s: usize, size: usize, i: usize) -> Item
-    requires { Program g image.now s size × (i < 16777216) }
-    ensures { Looked (bytes_of g image.now s) i result }
+pub fn item(disk: &Disk, s: usize, size: usize, i: usize) -> Item
+    requires { Program disk.now.g disk.now.image.now s size × (i < 16777216) }
+    ensures { Looked (bytes_of disk.now.g disk.now.image.now s) i result }
 {
     if size <= i {
         return broken(FILE_ENDS, size);
     }
-    let code = byte_at(image, g, s, size, i);
+    let code = byte_at(disk, s, size, i);
     if !is_code(code) {
         return broken(UNKNOWN_CODE, i);
     }
     if size <= i + 1 {
         return broken(FILE_ENDS, size);
     }
-    let count = byte_at(image, g, s, size, i + 1);
+    let count = byte_at(disk, s, size, i + 1);
     if bad_count(code, count) {
         return broken(WRONG_COUNT, i + 1);
     }
@@ -125,17 +115,9 @@ fn place_after(code: usize, behind: usize, i: usize) -> usize
 }
 
 // What stands at place p, told to who asked at place i.
-pub fn told(
-    image: &[u8],
-    g: Geometry,
-    s: usize,
-    size: usize,
-    i: usize,
-    p: usize,
-    x: Item,
-) -> NextRecord
-    requires { Program g image.now s size × (p < 16777216) × Looked (bytes_of g image.now s) p x × (x.code ≡ 5 → ⊥) }
-    ensures { Found (bytes_of g image.now s) (told_at (bytes_of g image.now s) i p) result }
+pub fn told(disk: &Disk, s: usize, size: usize, i: usize, p: usize, x: Item) -> NextRecord
+    requires { Program disk.now.g disk.now.image.now s size × (p < 16777216) × Looked (bytes_of disk.now.g disk.now.image.now s) p x × (x.code ≡ 5 → ⊥) }
+    ensures { Found (bytes_of disk.now.g disk.now.image.now s) (told_at (bytes_of disk.now.g disk.now.image.now s) i p) result }
 {
     if x.number != 0 {
         return NextRecord {
@@ -148,8 +130,8 @@ pub fn told(
             next: i,
         };
     }
-    let low = byte_at(image, g, s, size, p + 2);
-    let high = byte_at(image, g, s, size, p + 3);
+    let low = byte_at(disk, s, size, p + 2);
+    let high = byte_at(disk, s, size, p + 3);
     let next = place_after(x.code, p + 2 + x.rest, i);
     NextRecord {
         number: x.number,
@@ -163,36 +145,26 @@ pub fn told(
 }
 
 // The next record from place i on: comments are passed over.
-pub fn next_record(image: &[u8], g: Geometry, s: usize, size: usize, i: usize) -> NextRecord
-    requires { Program g image.now s size × (i < 16777216) }
-    ensures { Found (bytes_of g image.now s) (record_from (bytes_of g image.now s) i) result }
+pub fn next_record(disk: &Disk, s: usize, size: usize, i: usize) -> NextRecord
+    requires { Program disk.now.g disk.now.image.now s size × (i < 16777216) }
+    ensures { Found (bytes_of disk.now.g disk.now.image.now s) (record_from (bytes_of disk.now.g disk.now.image.now s) i) result }
 {
     let mut p = i;
-    let mut x = item(image, g, s, size, p);
+    let mut x = item(disk, s, size, p);
     // a step is as long as the comment: no `for`
     while x.code == COMMENT {
-        p = p + 2 + x.rest;
-        x = item(image, g, s, size, p);
+        p += 2 + x.rest;
+        x = item(disk, s, size, p);
     }
-    told(image, g, s, size, i, p, x)
+    told(disk, s, size, i, p, x)
 }
 
 // A record's bytes, which may be none, go to the buffer's start.
-pub fn hand_out(
-    image: &[u8],
-    g: Geometry,
-    s: usize,
-    size: usize,
-    from: usize,
-    n: usize,
-    buffer: &mut [u8],
-)
-    requires { Program g image.now s size × (from + n ≤ size) × (n ≤ 255) × (255 ≤ length buffer.old) }
-    ensures { buffer.new ≡ take n (drop from (bytes_of g image.now s)) ++ drop n buffer.old }
+pub fn hand_out(disk: &Disk, s: usize, size: usize, from: usize, n: usize, buffer: &mut [u8])
+    requires { Program disk.now.g disk.now.image.now s size × (from + n ≤ size) × (n ≤ 255) × (255 ≤ length buffer.old) }
+    ensures { buffer.new ≡ take n (drop from (bytes_of disk.now.g disk.now.image.now s)) ++ drop n buffer.old }
 {
-    if n != 0 {
-        read::read_bytes(image, g, s, from, n, buffer);
-    }
+    read::read_bytes(disk, s, from, n, buffer);
 }
 
 // Test 12: the handle's numbers are in range, and every record fits a buffer of length `room`.
@@ -224,8 +196,9 @@ pub fn load_checked(
             handle: h,
         };
     }
-    let size = layout::size_of(image, g, h.slot);
-    let r = next_record(image, g, h.slot, size, h.at);
+    let disk = Disk { image, g };
+    let size = disk.size_of(h.slot);
+    let r = next_record(&disk, h.slot, size, h.at);
     if r.number != 0 {
         return Loaded {
             refusal: refusal::carried(checked, r.number),
@@ -236,15 +209,13 @@ pub fn load_checked(
             handle: h,
         };
     }
-    hand_out(image, g, h.slot, size, r.from, r.count, buffer);
-    let mut moved = h;
-    moved.at = r.next;
+    hand_out(&disk, h.slot, size, r.from, r.count, buffer);
     Loaded {
-        refusal: refusal::carried(checked, 0),
+        refusal: refusal::accepted(checked),
         kind: r.kind,
         address: r.address,
         count: r.count,
         position: r.position,
-        handle: moved,
+        handle: Handle { at: r.next, ..h },
     }
 }

@@ -16,11 +16,8 @@ module _ (g : Geometry) (d n : List ℕ) {c : Refusal} (p : c ≡ check g d) whe
   number_is = ap {B = ℕ} (λ (x : Refusal). x.number) p
 
   -- the check's own refusal
-  pub by-check : c ≡ name_refusal g d n c.number
-  by-check = p ∙ sym (carried_first (check g d) (bad_at n) number_is)
-
-  pub by-own : {r : Refusal} → r ≡ carried c c.number → r ≡ name_refusal g d n c.number
-  by-own e = e ∙ carried-own c refl ∙ by-check
+  pub by-own : c ≡ name_refusal g d n c.number
+  by-own = p ∙ sym (carried_first (check g d) (bad_at n) number_is)
 
   -- 3, with the place of the first bad byte
   pub by_place : {k : ℕ} {r : Refusal} → c.number ≡ 0 → r ≡ placed 3 k → k ≡ (comes_in n).place → r ≡ name_refusal g d n 3

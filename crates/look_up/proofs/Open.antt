@@ -1,16 +1,15 @@
 -- Open's answers.
-use mathlib.Core.Path.{◌≡◌, sym, ap, ◌∙◌}
+use mathlib.Core.Path.{◌≡◌, ap, ◌∙◌}
 use mathlib.Core.List.{List, [], ◌∷◌}
-use mathlib.Core.Bool.{Bool, true, false, not, cond}
+use mathlib.Core.Bool.{Bool, not}
 use Prim.Native.Nat.{ℕ}
 use borrow.Author.Tests.{ne_eqb}
 use Rattle.meaning.specs.Lists.{first_or}
 use Rattle.meaning.specs.Names.{fold}
-use Rattle.meaning.specs.Entries.{access_level}
 use Rattle.meaning.specs.Refusals.{first, name_refusal}
 use Rattle.meaning.specs.Handles.{no_handle}
 use Rattle.meaning.specs.LookUp.{named, slot_of}
-use Rattle.meaning.specs.Open.{full, admits, opened_at, open_refusals, open'}
+use Rattle.meaning.specs.Open.{admits, opened_at, open_refusals, open'}
 use Rattle.meaning.specs.declared.Geometry.{Geometry}
 use Rattle.meaning.specs.declared.Handle.{Handle}
 use Rattle.meaning.specs.declared.Answer.{Answer}

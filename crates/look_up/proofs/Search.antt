@@ -26,7 +26,7 @@ use Rattle.passed.proofs.Checked.{check-stop}
 use Rattle.layout.specs.Room.{Slot}
 use Rattle.look_up.specs.Found.{Finds}
 use Rattle.look_up.specs.declared.Found.{Found}
-use Rattle.look_up.proofs.Named.{by-check}
+use Rattle.look_up.proofs.Named.{by-own}
 use Rattle.look_up.proofs.Pass.{slots_from, slots-start, slots-here, slots-past, slots_end}
 
 module _ (g : Geometry) (d n : List ℕ) where
@@ -156,5 +156,5 @@ module _ (g : Geometry) (d : List ℕ) where
       → ◌≡◌ {A = LookedUp} (record { refusal = c; slot = 0; compared = 0 }) (look_up g d n)
   told-stop n {c} e z =
       let no = c.number in
-      told g d n (by-check g d n e) (check-stop g d _ e z) (ap (λ (b : Bool). cond b (first_or 0 (named g d (fold n))) 0) (ne_eqb no 0 z))
+      told g d n (by-own g d n e) (check-stop g d _ e z) (ap (λ (b : Bool). cond b (first_or 0 (named g d (fold n))) 0) (ne_eqb no 0 z))
       (simp (ne_eqb no 0 z, ne_eqb no 4 (λ q. not-missing (sym (ap {B = ℕ} (λ (x : Refusal). x.number) e) ∙ q))))

@@ -23,19 +23,15 @@ use Rattle.meaning.specs.declared.Created.{Created}
 use Rattle.play_session.specs.Playing.{single, after_open}
 
 module _ (g : Geometry) (d : List ℕ) where
-  pub open-refused : (n : List ℕ) (len : ℕ) (c : Handle → Single.Call) {a : Answer} → a ≡ open' g d n len false 0 → (a.refusal.number ≡ 0 → ⊥)
-      → (a.refusal.number, d) ≡ after_open g d n len c
+  pub open-refused : (n : List ℕ) (len : ℕ) (c : Handle → Single.Call) {k : ℕ} → (k ≡ (open' g d n len false 0).refusal.number) × (k ≡ 0 → ⊥)
+      → (k, d) ≡ after_open g d n len c
   unfolding after_open
-  open-refused n len c {a} e h =
-      let k : (open' g d n len false 0).refusal.number ≡ a.refusal.number = sym (ap (λ (x : Answer). x.refusal.number) e) in
-      sym (rw (k, ne_eqb a.refusal.number 0 h))
+  open-refused n len c {k} p = sym (rw (sym p.0, ne_eqb k 0 p.1))
 
-  pub open_made : (n : List ℕ) (len : ℕ) (c : Handle → Single.Call) {a : Answer} {r : ℕ × List ℕ} → a ≡ open' g d n len false 0 → a.refusal.number ≡ 0
-      → r ≡ single g d (c a.handle) → r ≡ after_open g d n len c
+  pub open_made : (n : List ℕ) (len : ℕ) (c : Handle → Single.Call) {h : Handle} {r : ℕ × List ℕ}
+      → (h ≡ (open' g d n len false 0).handle) × ((open' g d n len false 0).refusal.number ≡ 0) → r ≡ single g d (c h) → r ≡ after_open g d n len c
   unfolding after_open
-  open_made n len c {a} {r} e h q =
-      let k : (open' g d n len false 0).refusal.number ≡ 0 = sym (ap (λ (x : Answer). x.refusal.number) e) ∙ h in
-      q ∙ ap (λ (x : Answer). single g d (c x.handle)) e ∙ sym (rw (k))
+  open_made n len c {h} {r} p q = q ∙ ap (λ (x : Handle). single g d (c x)) p.0 ∙ sym (rw p.1)
 
   pub create-is : (n : List ℕ) (f : NewFile) {a : Created} {d' : List ℕ} → (a, d') ≡ create g d n f false → (a.refusal.number, d') ≡ single g d
       (creates n f false)

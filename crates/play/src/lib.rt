@@ -11,10 +11,12 @@ ghost use Rattle.meaning.specs.Calls.Call.{creates, reads, writes, allots, trims
 ghost use Rattle.play_trace.specs.Reading.{read_trace, steps_of};
 ghost use Rattle.play_session.specs.Playing.{longest, undated, single, after_open, made, play};
 ghost use Rattle.play.specs.Told.{told};
+ghost use Rattle.play.specs.Opened.{Opened};
 
-use meaning::{Geometry, Mode, NewFile, Refusal};
+use meaning::{Geometry, Handle, Mode, NewFile, Refusal};
 use play_session::Played;
 use play_trace::{Call, ReadWith, WriteWith};
+use refusal::Why;
 
 // the record length of an open before a call that uses none
 const LONGEST: usize = 256;
@@ -32,8 +34,27 @@ fn create_file(image: &mut [u8], g: Geometry, name: &[u8], len: usize, checked: 
         main: 0,
         worker: 0,
     };
-    let c = create::create_checked(image, g, name, f, false, checked);
-    c.refusal.number
+    create::create_checked(image, g, name, f, false, checked)
+        .refusal
+        .number
+}
+
+// A fresh open, checking off: the handle, or the number of the refusal.
+fn opened(
+    image: &[u8],
+    g: Geometry,
+    name: &[u8],
+    len: usize,
+    checked: Refusal,
+) -> Result<Handle, u8>
+    requires { checked ≡ check g image.now }
+    ensures { Opened g image.now name.now len result }
+{
+    let o = look_up::open_checked(image, g, name, len, false, 0, checked);
+    match o.refusal.number {
+        0 => Ok(o.handle),
+        number => Err(number),
+    }
 }
 
 // A write of the fill byte, as many as the record length says.
@@ -49,55 +70,48 @@ fn write_fill(
     ensures { (result, image.new) ≡ after_open g image.old name.now a.length
         (λ h. writes one_record mode (moved_to h a.position) (replicate longest a.fill)) }
 {
-    let fill = a.fill;
-    let o = look_up::open_checked(image, g, name, a.length, false, 0, checked);
-    if o.refusal.number != 0 {
-        return o.refusal.number;
-    }
-    let mut h = o.handle;
+    let mut h = match opened(image, g, name, a.length, checked) {
+        Ok(h) => h,
+        Err(number) => return number,
+    };
     h.at = a.position;
+    let fill = a.fill;
     let buffer = [fill; 256];
-    let w = write::write_checked(image, g, mode, h, h.len, &buffer, checked);
-    w.refusal.number
+    write::write_checked(image, g, mode, h, h.len, &buffer, checked)
+        .refusal
+        .number
 }
 
 fn allot_to(image: &mut [u8], g: Geometry, name: &[u8], sector: usize, checked: Refusal) -> u8
     requires { checked ≡ check g image.old }
     ensures { (result, image.new) ≡ after_open g image.old name.now longest (λ h. allots h sector) }
 {
-    let o = look_up::open_checked(image, g, name, LONGEST, false, 0, checked);
-    if o.refusal.number != 0 {
-        return o.refusal.number;
+    match opened(image, g, name, LONGEST, checked) {
+        Ok(h) => allot::allot_checked(image, g, h, sector, checked)
+            .refusal
+            .number,
+        Err(number) => number,
     }
-    let h = o.handle;
-    let a = allot::allot_checked(image, g, h, sector, checked);
-    a.refusal.number
 }
 
 fn trim_file(image: &mut [u8], g: Geometry, name: &[u8], checked: Refusal) -> u8
     requires { checked ≡ check g image.old }
     ensures { (result, image.new) ≡ after_open g image.old name.now longest trims }
 {
-    let o = look_up::open_checked(image, g, name, LONGEST, false, 0, checked);
-    if o.refusal.number != 0 {
-        return o.refusal.number;
+    match opened(image, g, name, LONGEST, checked) {
+        Ok(h) => trim::trim_checked(image, g, h, checked).refusal.number,
+        Err(number) => number,
     }
-    let h = o.handle;
-    let a = trim::trim_checked(image, g, h, checked);
-    a.refusal.number
 }
 
 fn kill_file(image: &mut [u8], g: Geometry, name: &[u8], checked: Refusal) -> u8
     requires { checked ≡ check g image.old }
     ensures { (result, image.new) ≡ after_open g image.old name.now longest kills }
 {
-    let o = look_up::open_checked(image, g, name, LONGEST, false, 0, checked);
-    if o.refusal.number != 0 {
-        return o.refusal.number;
+    match opened(image, g, name, LONGEST, checked) {
+        Ok(h) => kill::kill_checked(image, g, h, checked).refusal.number,
+        Err(number) => number,
     }
-    let h = o.handle;
-    let a = kill::kill_checked(image, g, h, checked);
-    a.refusal.number
 }
 
 // A read: its bytes are told nowhere.
@@ -106,15 +120,15 @@ fn read_through(image: &[u8], g: Geometry, name: &[u8], a: ReadWith, checked: Re
     ensures { (result, image.now) ≡ after_open g image.now name.now a.length
         (λ h. reads one_record (moved_to h a.position) (replicate longest 0)) }
 {
-    let o = look_up::open_checked(image, g, name, a.length, false, 0, checked);
-    if o.refusal.number != 0 {
-        return o.refusal.number;
-    }
-    let mut h = o.handle;
+    let mut h = match opened(image, g, name, a.length, checked) {
+        Ok(h) => h,
+        Err(number) => return number,
+    };
     h.at = a.position;
     let mut buffer = [0u8; 256];
-    let r = read::read_checked(image, g, h, h.len, &mut buffer, checked);
-    r.refusal.number
+    read::read_checked(image, g, h, h.len, &mut buffer, checked)
+        .refusal
+        .number
 }
 
 // One call of the trace on the file of that name.
@@ -146,15 +160,10 @@ fn run(
         × (calls ≤ length results.old) }
     ensures { (results.new, image.new) ≡ told g (read_trace bytes.now) image.old results.old }
 {
-    let mut i = 0;
-    while i < calls {
+    for i in 0..calls {
         let s = play_trace::step_at(bytes, i);
-        let file = s.file;
-        let call = s.call;
-        let name = play_trace::name_at(bytes, file);
-        let r = make(image, g, name, call, checked);
-        results[i] = r;
-        i += 1;
+        let name = play_trace::name_at(bytes, s.file);
+        results[i] = make(image, g, name, s.call, checked);
     }
 }
 
@@ -180,7 +189,7 @@ pub fn play_checked(
     let c = play_trace::check_trace(bytes);
     if !c.well {
         return Played {
-            refusal: refusal::carried(checked, 14),
+            refusal: Why::BadTrace.after(checked),
             calls: 0,
             byte: c.byte,
             bit: c.bit,
@@ -189,7 +198,7 @@ pub fn play_checked(
     let calls = c.calls;
     if results.len() < calls {
         return Played {
-            refusal: refusal::carried(checked, 15),
+            refusal: Why::NoRoom.after(checked),
             calls: 0,
             byte: 0,
             bit: 0,

@@ -1,35 +1,29 @@
 // A read of any number of bytes, of which read record and read bytes are two; and read sector.
 #![tactic(auto)]
 
-ghost use Rattle.std.specs.Prelude.{◌≡◌, [], ◌∷◌, ◌++◌, ◌+◌, ◌-◌, ◌*◌, ◌<◌, ◌≤◌, length, drop, leb};
+ghost use Rattle.std.specs.Prelude.{◌≡◌, [], ◌∷◌, ◌++◌, ◌+◌, ◌<◌, ◌≤◌, length, drop, leb};
 ghost use Rattle.std.proofs.lemmas.List.Edits.{sets};
 ghost use Rattle.meaning.specs.Lists.{all};
 ghost use Rattle.meaning.specs.Layout.{highest};
 ghost use Rattle.meaning.specs.Read.{fetch, read_refusals, read_of, sector_refusals, sector_bytes, read_sector};
 ghost use Rattle.meaning.specs.Entries.{sector_count};
-ghost use Rattle.layout.specs.Room.{Room, Slot};
+ghost use Rattle.layout.specs.Room.{Slot};
 ghost use Rattle.meaning.specs.Refusals.{first, check};
 ghost use Rattle.meaning.specs.Handles.{in_range};
 ghost use Rattle.refusal.specs.Passes.{Passes};
 ghost use Rattle.read.specs.Part.{Rest, Readable, Within, Owned, InGranule, part_of, Lies};
 
+use layout::Disk;
 use meaning::{Answer, Geometry, Handle, Part, Refusal};
+use refusal::Why;
 
 // n bytes of the file from byte i on, all in one granule, go to the buffer at `to`: one walk along the chain, one copy.
-pub fn read_part(
-    image: &[u8],
-    g: Geometry,
-    s: usize,
-    i: usize,
-    n: usize,
-    buffer: &mut [u8],
-    to: usize,
-)
-    requires { Readable g image.now s × Owned g image.now s i n × InGranule g i n × (to + n ≤ length buffer.old) }
-    ensures { buffer.new ≡ sets buffer.old to (fetch g image.now s i n) }
+pub fn read_part(disk: &Disk, s: usize, i: usize, n: usize, buffer: &mut [u8], to: usize)
+    requires { Readable disk.now.g disk.now.image.now s × Owned disk.now.g disk.now.image.now s i n × InGranule disk.now.g i n × (to + n ≤ length buffer.old) }
+    ensures { buffer.new ≡ sets buffer.old to (fetch disk.now.g disk.now.image.now s i n) }
 {
-    let p = seek::place(image, g, s, i);
-    copy::put_part(buffer, to, image, p, n);
+    let p = seek::place(disk, s, i);
+    copy::put_part(buffer, to, disk.image, p, n);
 }
 
 // How many bytes, from byte i on, are left of its granule.
@@ -49,15 +43,15 @@ pub fn part_of(g: Geometry, i: usize, n: usize) -> usize
 }
 
 // n bytes of the file from byte i on go to the buffer's start, granule by granule.
-pub fn read_bytes(image: &[u8], g: Geometry, s: usize, i: usize, n: usize, buffer: &mut [u8])
-    requires { Readable g image.now s × Within g image.now s i n × (n ≤ length buffer.old) }
-    ensures { buffer.new ≡ fetch g image.now s i n ++ drop n buffer.old }
+pub fn read_bytes(disk: &Disk, s: usize, i: usize, n: usize, buffer: &mut [u8])
+    requires { Readable disk.now.g disk.now.image.now s × Within disk.now.g disk.now.image.now s i n × (n ≤ length buffer.old) }
+    ensures { buffer.new ≡ fetch disk.now.g disk.now.image.now s i n ++ drop n buffer.old }
 {
     let mut done = 0;
     // a step takes what is left of a granule: no `for`
     while done < n {
-        let m = part_of(g, i + done, n - done);
-        read_part(image, g, s, i + done, m, buffer, done);
+        let m = part_of(disk.g, i + done, n - done);
+        read_part(disk, s, i + done, m, buffer, done);
         done += m;
     }
 }
@@ -83,8 +77,9 @@ pub fn admits_read(
 {
     let ranged = read_ranged(g, h, n, room);
     handle::admits_reading(image, g, h, ranged, checked)?;
-    if layout::size_of(image, g, h.slot) < h.at + n {
-        return Err(refusal::unplaced(10));
+    let disk = Disk { image, g };
+    if disk.size_of(h.slot) < h.at + n {
+        return Err(Why::PastSize.refusal());
     }
     Ok(())
 }
@@ -105,12 +100,10 @@ pub fn read_checked(
     if let Err(refusal) = admits_read(image, g, h, n, buffer.len(), checked) {
         return Answer { refusal, handle: h };
     }
-    read_bytes(image, g, h.slot, h.at, n, buffer);
-    let mut moved = h;
-    moved.at = h.at + n;
+    read_bytes(&Disk { image, g }, h.slot, h.at, n, buffer);
     Answer {
-        refusal: refusal::carried(checked, 0),
-        handle: moved,
+        refusal: refusal::accepted(checked),
+        handle: Handle { at: h.at + n, ..h },
     }
 }
 
@@ -127,25 +120,25 @@ pub fn admits_sector(
 {
     let ranged = handle::sector_ranged(g, h, k);
     handle::admits_reading(image, g, h, ranged, checked)?;
-    if layout::word(image, g, h.slot, layout::SECTOR_COUNT) <= k {
-        return Err(refusal::unplaced(10));
+    let disk = Disk { image, g };
+    if disk.word(h.slot, layout::SECTOR_COUNT) <= k {
+        return Err(Why::PastSize.refusal());
     }
     Ok(())
 }
 
 // How many bytes of sector k are the file's.
-pub fn sector_bytes(image: &[u8], g: Geometry, s: usize, k: usize) -> usize
-    requires { Room g image.now × Slot g image.now s × (k < sector_count g image.now s) × (k < 65536) }
-    ensures { (result ≡ sector_bytes g image.now s k) × (result ≤ 256) }
+pub fn sector_bytes(disk: &Disk, s: usize, k: usize) -> usize
+    requires { Slot disk.now.g disk.now.image.now s × (k < sector_count disk.now.g disk.now.image.now s) × (k < 65536) }
+    ensures { (result ≡ sector_bytes disk.now.g disk.now.image.now s k) × (result ≤ 256) }
 {
-    if k + 1 != layout::word(image, g, s, layout::SECTOR_COUNT) {
+    if k + 1 != disk.word(s, layout::SECTOR_COUNT) {
         return 256;
     }
-    let e = layout::field(image, g, s, layout::END_BYTE);
-    if e == 0 {
-        return 256;
+    match disk.field(s, layout::END_BYTE) {
+        0 => 256,
+        e => e,
     }
-    e
 }
 
 // Where the file's bytes in sector k lie, of a disk whose check answered `checked`.
@@ -161,13 +154,12 @@ pub fn sector_checked(image: &[u8], g: Geometry, h: Handle, k: usize, checked: R
             to: 0,
         };
     }
-    let from = seek::place(image, g, h.slot, 256 * k);
-    let n = sector_bytes(image, g, h.slot, k);
-    let to = from + n;
+    let disk = Disk { image, g };
+    let from = seek::place(&disk, h.slot, 256 * k);
     Part {
-        refusal: refusal::carried(checked, 0),
+        refusal: refusal::accepted(checked),
         from,
-        to,
+        to: from + sector_bytes(&disk, h.slot, k),
     }
 }
 
@@ -188,7 +180,5 @@ pub fn part_checked<'a>(
     let p = sector_checked(image, g, h, k, checked);
     *number = p.refusal.number;
     *at = p.refusal.at;
-    let from = p.from;
-    let to = p.to;
-    &image[from..to]
+    &image[p.from..p.to]
 }

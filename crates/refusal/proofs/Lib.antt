@@ -1,3 +1,4 @@
 pub mod Lent
 mod Told
 pub mod Telling
+pub mod Numbers

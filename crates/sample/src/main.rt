@@ -104,12 +104,10 @@ fn show_file(image: &[u8; 40960], number: usize) -> bool {
 }
 
 fn show_files(image: &[u8; 40960], files: usize) -> bool {
-    let mut i = 0;
-    while i < files {
+    for i in 0..files {
         if !show_file(image, i) {
             return false;
         }
-        i += 1;
     }
     true
 }

@@ -10,8 +10,8 @@ use lib.Seq.{get_or-set_other}
 use lib.Dec.{eqb}
 use borrow.Author.Tests.{eqb-true}
 use Rattle.meaning.specs.Lists.{each, through}
-use Rattle.meaning.specs.Layout.{directory_sectors, field, granules, slots, free_granule, gat_at, byte, granule_bytes}
-use Rattle.meaning.specs.Bits.{bit, without_bit}
+use Rattle.meaning.specs.Layout.{directory_sectors, field, granules, slots, free_granule, take_granule, gat_at, byte, granule_bytes}
+use Rattle.meaning.specs.Bits.{bit, with_bit, without_bit}
 use Rattle.meaning.specs.Entries.{in_use, extension, in_use_primary, marker, link, runs, run_start, run_length, entry_granules, size_of}
 use Rattle.meaning.specs.Chain.{chain_from, chain, owned, place}
 use Rattle.meaning.specs.declared.Geometry.{Geometry}
@@ -160,6 +160,12 @@ unfolding free_granule
 same-free g d n r h =
     let l = gat-low g n h r.units-low in let b = r.blocks-high in
     same-before g d (gat_at g n) (without_bit (n % g.units) (byte d (gat_at g n))) (omega arith)
+
+pub same-take : (g : Geometry) (d : List ℕ) (n : ℕ) → Room g d → n < granules g → Same g d (take_granule g d n)
+unfolding take_granule
+same-take g d n r h =
+    let l = gat-low g n h r.units-low in let b = r.blocks-high in
+    same-before g d (gat_at g n) (with_bit (n % g.units) (byte d (gat_at g n))) (omega arith)
 
 module _ (g : Geometry) (d d' : List ℕ) (snd : Walkable g d) (e : Same g d d') where
   slot-back : {s : ℕ} → Slot g d' s → Slot g d s

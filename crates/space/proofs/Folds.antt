@@ -1,7 +1,7 @@
 -- Folds of the image along runs and chains.
 use mathlib.Core.Path.{◌≡◌, refl, sym, ap, ◌∙◌}
 use mathlib.Core.List.{List, [], ◌∷◌, ◌++◌}
-use mathlib.Core.Bool.{Bool, cond}
+use mathlib.Core.Bool.{Bool, true, false, cond}
 use Prim.Native.Nat.{ℕ, zero, suc, ◌+◌, ◌-◌, ◌*◌, ◌≤◌, ◌<◌}
 use native.Mathlib.Omega.{arith}
 use native.Mathlib.Nat.{sub-zero}
@@ -16,10 +16,12 @@ use Rattle.meaning.specs.Chain.{chain_from, chain, owned}
 use Rattle.meaning.specs.Kill.{kill_entry}
 use Rattle.meaning.specs.declared.Geometry.{Geometry}
 use Rattle.layout.specs.Room.{Room, Slot}
+use Rattle.space.specs.Marks.{mark}
 use Rattle.lists.specs.Ranges.{left-more, left-none}
 use Rattle.seek.specs.Seek.{Walkable, Used, onward}
 use Rattle.seek.proofs.SeekSteps.{chain-none, slots_length}
-use Rattle.seek.proofs.Frame.{opened, room-kept, slot_kept, Same, same_refl, same-trans, same-free, same-room, same-entry, same-sound, same-all, same-used}
+use Rattle.seek.proofs.Frame.{opened, room-kept, slot_kept, Same, same_refl, same-trans, same-free, same-take, same-room, same-entry, same-sound, same-all}
+use Rattle.seek.proofs.Frame.{same-used}
 use Rattle.seek.proofs.Frame.{same-slots-of}
 use Rattle.seek.proofs.IsWalkable.{low-entry, low-chain}
 
@@ -28,43 +30,47 @@ through-append f x [] ys = refl
 through-append f x (n ∷ xs) ys = through-append f (f x n) xs ys
 
 module _ (g : Geometry) where
-  pub same-run : (d : List ℕ) (a n : ℕ) → Room g d → a + n ≤ granules g → Same g d (through (free_granule g) d (count a n))
-  same-run d a zero r h = same_refl g d
-  same-run d a (suc n) r h =
-      let e = same-free g d a r (omega arith) in
-      same-trans g d (free_granule g d a) (through (free_granule g) (free_granule g d a) (count (a + 1) n)) r e
-      (same-run (free_granule g d a) (a + 1) n (same-room g d (free_granule g d a) r e) (omega arith))
+  same-mark : (set : Bool) (d : List ℕ) (n : ℕ) → Room g d → n < granules g → Same g d (mark g set d n)
+  same-mark true d n r h = same-take g d n r h
+  same-mark false d n r h = same-free g d n r h
 
-  -- run by run
-  pub record Emptying (d : List ℕ) (s n : ℕ) (d' : List ℕ) (j : ℕ) : Type 0 where
-    pub rest : through (free_granule g) d (entry_granules g d s) ≡ through (free_granule g) d' (each (run_granules g d s) (count j (n - j)))
+  pub same-run : (set : Bool) (d : List ℕ) (a n : ℕ) → Room g d → a + n ≤ granules g → Same g d (through (mark g set) d (count a n))
+  same-run set d a zero r h = same_refl g d
+  same-run set d a (suc n) r h =
+      let e = same-mark set d a r (omega arith) in
+      same-trans g d (mark g set d a) (through (mark g set) (mark g set d a) (count (a + 1) n)) r e
+      (same-run set (mark g set d a) (a + 1) n (same-room g d (mark g set d a) r e) (omega arith))
+
+  -- an entry's granules taken or given back, run by run: j of n are done
+  pub record ByRuns (set : Bool) (d : List ℕ) (s n : ℕ) (d' : List ℕ) (j : ℕ) : Type 0 where
+    pub rest : through (mark g set) d (entry_granules g d s) ≡ through (mark g set) d' (each (run_granules g d s) (count j (n - j)))
     pub same : Same g d d'
 
-  pub emptying-start : (d : List ℕ) (s : ℕ) {n : ℕ} → n ≡ runs g d s → Emptying d s n d 0
+  pub by-runs-start : (set : Bool) (d : List ℕ) (s : ℕ) {n : ℕ} → n ≡ runs g d s → ByRuns set d s n d 0
   unfolding entry_granules
-  emptying-start d s {n} e =
+  by-runs-start set d s {n} e =
       record {
-        rest = ap (λ (m : ℕ). through (free_granule g) d (each (run_granules g d s) (count 0 m))) (sym e ∙ sym (sub-zero n));
+        rest = ap (λ (m : ℕ). through (mark g set) d (each (run_granules g d s) (count 0 m))) (sym e ∙ sym (sub-zero n));
         same = same_refl g d;
       }
 
-  pub emptying-step : {d d' d'' : List ℕ} {s n j a len : ℕ} → Room g d → Emptying d s n d' j → j < n → a ≡ run_start g d s j → len ≡ run_length g d s j
-      → a + len ≤ granules g → d'' ≡ through (free_granule g) d' (count a len) → Emptying d s n d'' (j + 1)
-  emptying-step {d} {d'} {d''} {s} {n} {j} {a} {len} r f h u v l e =
+  pub by-runs-step : {set : Bool} {d d' d'' : List ℕ} {s n j a len : ℕ} → Room g d → ByRuns set d s n d' j → j < n → a ≡ run_start g d s j
+      → len ≡ run_length g d s j → a + len ≤ granules g → d'' ≡ through (mark g set) d' (count a len) → ByRuns set d s n d'' (j + 1)
+  by-runs-step {set} {d} {d'} {d''} {s} {n} {j} {a} {len} r f h u v l e =
+      let left = each (run_granules g d s) (count (j + 1) (n - (j + 1))) in
       record {
         rest =
-            f.rest ∙ ap (λ (m : ℕ). through (free_granule g) d' (each (run_granules g d s) (count j m))) (left-more h)
-            ∙ through-append (free_granule g) d' (run_granules g d s j) (each (run_granules g d s) (count (j + 1) (n - (j + 1))))
-            ∙ ap (λ (m : ℕ). through (free_granule g) (through (free_granule g) d' (count m (run_length g d s j)))
-            (each (run_granules g d s) (count (j + 1) (n - (j + 1))))) (sym u)
-            ∙ ap (λ (m : ℕ). through (free_granule g) (through (free_granule g) d' (count a m)) (each (run_granules g d s) (count (j + 1) (n - (j + 1)))))
-            (sym v)
-            ∙ ap (λ (z : List ℕ). through (free_granule g) z (each (run_granules g d s) (count (j + 1) (n - (j + 1))))) (sym e);
-        same = rw e (same-trans g d d' (through (free_granule g) d' (count a len)) r f.same (same-run d' a len (same-room g d d' r f.same) l));
+            f.rest ∙ ap (λ (m : ℕ). through (mark g set) d' (each (run_granules g d s) (count j m))) (left-more h)
+            ∙ through-append (mark g set) d' (run_granules g d s j) left
+            ∙ ap (λ (m : ℕ). through (mark g set) (through (mark g set) d' (count m (run_length g d s j))) left) (sym u)
+            ∙ ap (λ (m : ℕ). through (mark g set) (through (mark g set) d' (count a m)) left) (sym v)
+            ∙ ap (λ (z : List ℕ). through (mark g set) z left) (sym e);
+        same = rw e (same-trans g d d' (through (mark g set) d' (count a len)) r f.same (same-run set d' a len (same-room g d d' r f.same) l));
       }
 
-  pub emptying-end : {d d' : List ℕ} {s n j : ℕ} → Emptying d s n d' j → n ≤ j → d' ≡ through (free_granule g) d (entry_granules g d s)
-  emptying-end {d} {d'} {s} {n} {j} f h = sym (f.rest ∙ ap (λ (m : ℕ). through (free_granule g) d' (each (run_granules g d s) (count j m))) (left-none h))
+  pub by-runs-end : {set : Bool} {d d' : List ℕ} {s n j : ℕ} → ByRuns set d s n d' j → n ≤ j → d' ≡ through (mark g set) d (entry_granules g d s)
+  by-runs-end {set} {d} {d'} {s} {n} {j} f h =
+      sym (f.rest ∙ ap (λ (m : ℕ). through (mark g set) d' (each (run_granules g d s) (count j m))) (left-none h))
 
   chain-cons : (d : List ℕ) {most i : ℕ} (s : ℕ) → i < most → chain_from g d (most - i) s ≡ s ∷ onward g d (most - (i + 1)) s
   unfolding chain_from

@@ -1,3 +1,4 @@
 pub mod Clear
 pub mod Keeps
 pub mod Marks
+pub mod OnDisk

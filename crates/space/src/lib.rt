@@ -13,8 +13,10 @@ ghost use Rattle.layout.specs.Room.{Room, Slot, Read};
 ghost use Rattle.seek.specs.Seek.{Walkable, Used};
 ghost use Rattle.space.specs.Clear.{clear_bits, free_in};
 ghost use Rattle.space.specs.Keeps.{Keeps};
+ghost use Rattle.space.specs.OnDisk.{RunsOnDisk};
 ghost use Rattle.space.specs.Marks.{put_bit, mark, mask};
 
+use layout::Disk;
 use meaning::Geometry;
 
 // Clears bit 4 of an entry, and its HIT byte.
@@ -22,8 +24,14 @@ pub fn kill_entry(image: &mut [u8], g: Geometry, s: usize)
     requires { Room g image.old × Slot g image.old s }
     ensures { image.new ≡ kill_entry g image.old s }
 {
-    let flags = layout::without_bit(layout::field(image, g, s, layout::FLAGS), layout::IN_USE);
-    layout::set_field(image, g, s, layout::FLAGS, flags);
+    let flags = Disk { image, g }.field(s, layout::FLAGS);
+    layout::set_field(
+        image,
+        g,
+        s,
+        layout::FLAGS,
+        layout::without_bit(flags, layout::IN_USE),
+    );
     layout::set_hit(image, g, s, 0);
 }
 
@@ -93,30 +101,44 @@ pub fn take_run(image: &mut [u8], g: Geometry, a: usize, n: usize)
 }
 
 // Whether one of n granules of block b from unit u on is taken, by one mask.
-fn units_taken(image: &[u8], g: Geometry, b: usize, u: usize, n: usize) -> bool
-    requires { (256 * g.start + b < length image.now) × (u + n ≤ g.units) × (g.units ≤ most_units) }
-    ensures { result ≡ some (taken g image.now) (count (b * g.units + u) n) }
+fn units_taken(disk: &Disk, b: usize, u: usize, n: usize) -> bool
+    requires { (256 * disk.now.g.start + b < length disk.now.image.now) × (u + n ≤ disk.now.g.units) }
+    ensures { result ≡ some (taken disk.now.g disk.now.image.now) (count (b * disk.now.g.units + u) n) }
 {
-    layout::gat_byte(image, g, b) & mask(u, n) != 0
+    layout::gat_byte(disk.image, disk.g, b) & mask(u, n) != 0
 }
 
 // Whether one of n granules from a on is taken, block by block.
-pub fn run_taken(image: &[u8], g: Geometry, a: usize, n: usize) -> bool
-    requires { Room g image.now × (a + n ≤ granules g) }
-    ensures { result ≡ some (taken g image.now) (count a n) }
+pub fn run_taken(disk: &Disk, a: usize, n: usize) -> bool
+    requires { a + n ≤ granules disk.now.g }
+    ensures { result ≡ some (taken disk.now.g disk.now.image.now) (count a n) }
 {
-    let mut b = a / g.units;
-    let mut u = a % g.units;
+    let mut b = a / disk.g.units;
+    let mut u = a % disk.g.units;
     let mut left = n;
-    while g.units < u + left {
-        if units_taken(image, g, b, u, g.units - u) {
+    while disk.g.units < u + left {
+        if units_taken(disk, b, u, disk.g.units - u) {
             return true;
         }
-        left -= g.units - u;
+        left -= disk.g.units - u;
         b += 1;
         u = 0;
     }
-    units_taken(image, g, b, u, left)
+    units_taken(disk, b, u, left)
+}
+
+// Takes or gives back the granules of the entry at slot s, run by run.
+fn mark_entry(image: &mut [u8], g: Geometry, s: usize, set: bool)
+    requires { Room g image.old × RunsOnDisk g image.old s }
+    ensures { image.new ≡ through (mark g set) image.old (entry_granules g image.old s) }
+{
+    let runs = Disk { image, g }.runs(s);
+    for j in 0..runs {
+        let disk = Disk { image, g };
+        let a = disk.run_start(s, j);
+        let len = disk.run_length(s, j);
+        mark_run(image, g, a, len, set);
+    }
 }
 
 // Gives back the granules of the entry at slot s.
@@ -124,11 +146,15 @@ pub fn free_entry(image: &mut [u8], g: Geometry, s: usize)
     requires { Walkable g image.old × Used g image.old s }
     ensures { image.new ≡ through (free_granule g) image.old (entry_granules g image.old s) }
 {
-    for j in 0..layout::runs(image, g, s) {
-        let a = layout::run_start(image, g, s, j);
-        let len = layout::run_length(image, g, s, j);
-        free_run(image, g, a, len);
-    }
+    mark_entry(image, g, s, false);
+}
+
+// Takes the granules of the entry at slot s.
+pub fn take_entry(image: &mut [u8], g: Geometry, s: usize)
+    requires { Room g image.old × RunsOnDisk g image.old s }
+    ensures { image.new ≡ through (take_granule g) image.old (entry_granules g image.old s) }
+{
+    mark_entry(image, g, s, true);
 }
 
 // Gives back the granules of a file from the entry at slot s on, `most` entries at the most.
@@ -140,10 +166,11 @@ pub fn free_chain(image: &mut [u8], g: Geometry, s: usize, most: usize)
     let mut at = s;
     for _ in 0..most {
         free_entry(image, g, at);
-        if layout::field(image, g, at, layout::MARKER) != layout::HANDS_ON {
+        let disk = Disk { image, g };
+        if disk.field(at, layout::MARKER) != layout::HANDS_ON {
             return;
         }
-        at = layout::field(image, g, at, layout::LINK);
+        at = disk.field(at, layout::LINK);
     }
 }
 
@@ -155,8 +182,9 @@ pub fn kill_chain(image: &mut [u8], g: Geometry, s: usize, most: usize)
 {
     let mut at = s;
     for _ in 0..most {
-        let marker = layout::field(image, g, at, layout::MARKER);
-        let link = layout::field(image, g, at, layout::LINK);
+        let disk = Disk { image, g };
+        let marker = disk.field(at, layout::MARKER);
+        let link = disk.field(at, layout::LINK);
         kill_entry(image, g, at);
         if marker != layout::HANDS_ON {
             return;
@@ -171,7 +199,7 @@ pub fn kill_file(image: &mut [u8], g: Geometry, s: usize)
     ensures { image.new ≡ through (kill_entry g) (through (free_granule g) image.old (owned g image.old s))
         (chain g image.old s) }
 {
-    let most = layout::slots(image, g);
+    let most = Disk { image, g }.slots();
     free_chain(image, g, s, most);
     kill_chain(image, g, s, most);
 }
@@ -189,17 +217,16 @@ pub fn kept_columns(g: Geometry, row: usize) -> usize
 }
 
 // The first permitted slot with HIT byte 0, by rising slot number, if there is one. A row begins behind its kept slots.
-pub fn first_free_slot(image: &[u8], g: Geometry) -> Option<usize>
-    requires { Room g image.now }
-    ensures { option_to_list result ≡ take 1 (free_slots g image.now) }
+pub fn first_free_slot(disk: &Disk) -> Option<usize>
+    ensures { option_to_list result ≡ take 1 (free_slots disk.now.g disk.now.image.now) }
 {
-    let n = layout::columns(image, g);
+    let n = disk.columns();
     let mut found = None;
     // left by a label: the form that 01 names for this place
     'rows: for row in 0..8 {
-        for s in kept_columns(g, row)..n {
+        for s in kept_columns(disk.g, row)..n {
             let slot = 32 * row + s;
-            if layout::hit(image, g, slot) == 0 {
+            if disk.hit(slot) == 0 {
                 found = Some(slot);
                 break 'rows;
             }
@@ -227,43 +254,45 @@ fn all_set(byte: usize, bits: usize) -> bool
 }
 
 // Whether a block begins with granule n and all its granules are taken.
-pub fn block_taken(image: &[u8], g: Geometry, n: usize) -> bool
-    requires { Room g image.now × (n < granules g) }
-    ensures { result ≡ all (eqb (n % g.units) 0 ∷ every (taken g image.now) (count n g.units) ∷ []) }
+pub fn block_taken(disk: &Disk, n: usize) -> bool
+    requires { n < granules disk.now.g }
+    ensures { result ≡ all (eqb (n % disk.now.g.units) 0 ∷ every (taken disk.now.g disk.now.image.now) (count n disk.now.g.units) ∷ []) }
 {
-    n % g.units == 0 && all_set(layout::gat_byte(image, g, n / g.units), g.units)
+    n % disk.g.units == 0
+        && all_set(
+            layout::gat_byte(disk.image, disk.g, n / disk.g.units),
+            disk.g.units,
+        )
 }
 
 // 1 in each of eight bytes.
 const ONE_EACH: u64 = 0x0101_0101_0101_0101;
 
 // How many granules of eight blocks from block b on are free: what is set of their bits is counted in one number.
-pub fn free_in_eight(image: &[u8], g: Geometry, b: usize) -> usize
-    requires { Room g image.now × (b + 8 ≤ g.blocks) }
-    ensures { (result ≡ free_in g image.now (b * g.units) (8 * g.units)) × (result ≤ 64) }
+pub fn free_in_eight(disk: &Disk, b: usize) -> usize
+    requires { b + 8 ≤ disk.now.g.blocks }
+    ensures { (result ≡ free_in disk.now.g disk.now.image.now (b * disk.now.g.units) (8 * disk.now.g.units)) × (result ≤ 64) }
 {
-    let x = layout::eight(image, layout::gat_at(image, g, b));
-    let bits = mask(0, g.units) as u64 * ONE_EACH;
-    8 * g.units - (x & bits).count_ones() as usize
+    let x = layout::eight(disk.image, layout::gat_at(disk.image, disk.g, b));
+    let bits = mask(0, disk.g.units) as u64 * ONE_EACH;
+    8 * disk.g.units - (x & bits).count_ones() as usize
 }
 
 // How many granules are free, by one pass over the GAT, eight bytes at a time: the listing asks for the number alone, and the pass of
 // `free_space`, which looks for the longest stretch too, would cost it its time. From the last block on, as a growth counts
 // (`growth_search`), so that the same laws serve both.
-pub fn free_count(image: &[u8], g: Geometry) -> usize
-    requires { Room g image.now }
-    ensures { result ≡ length (free_granules g image.now) }
+pub fn free_count(disk: &Disk) -> usize
+    ensures { result ≡ length (free_granules disk.now.g disk.now.image.now) }
 {
     let mut n = 0;
-    let mut b = g.blocks;
-    // by eight and then by one, from where the eights end: no range has both steps
+    let mut b = disk.g.blocks;
+    // eight blocks a step, and those that are left one by one
     while 8 <= b {
         b -= 8;
-        n += free_in_eight(image, g, b);
+        n += free_in_eight(disk, b);
     }
-    while 0 < b {
-        b -= 1;
-        n += clear_bits(layout::gat_byte(image, g, b), g.units);
+    for rest in (0..b).rev() {
+        n += clear_bits(layout::gat_byte(disk.image, disk.g, rest), disk.g.units);
     }
     n
 }

@@ -171,7 +171,7 @@ module _ (g : Geometry) (d : List ℕ) (p e n : ℕ) (l : Last g d p e n) (some 
   shorter m = set_field g (freed m) e i (second - m)
 
   same : (m : ℕ) → m ≤ len → Same g d (freed m)
-  same m h = let b = on-disk in same-run g d (a + len - m) m room (omega arith)
+  same m h = let b = on-disk in same-run g false d (a + len - m) m room (omega arith)
 
   pub freed-long : (m : ℕ) → m ≤ len → length (freed m) ≡ length d
   freed-long m h = (same m h).long
@@ -188,7 +188,7 @@ module _ (g : Geometry) (d : List ℕ) (p e n : ℕ) (l : Last g d p e n) (some 
       (omega arith, w, omega (arith, f, ql))
 
   gone_long : {d' : List ℕ} → d' ≡ through (free_granule g) d (count a len) → length d' ≡ length d
-  gone_long q = ap length q ∙ (same-run g d a len room on-disk).long
+  gone_long q = ap length q ∙ (same-run g false d a len room on-disk).long
 
   pub gone-fits : {d' : List ℕ} → d' ≡ through (free_granule g) d (count a len) → (entry_at g e + 32 ≤ length d') × (x - 1 < 4)
   gone-fits {d'} q = let b = entry-fits g d e room slot in let z = gone_long q in (omega arith, k-low)

@@ -11,6 +11,7 @@ ghost use Rattle.meaning.specs.Refusals.{check};
 ghost use Rattle.meaning.specs.Trim.{trim};
 ghost use Rattle.trim.specs.Last.{Last, Dropping};
 
+use layout::Disk;
 use meaning::{Answer, Geometry, Handle, Refusal};
 
 // Pair k of the entry at slot e, shorter by m.
@@ -53,16 +54,17 @@ fn drop_run(image: &mut [u8], g: Geometry, p: usize, e: usize, n: usize) -> Drop
     requires { Last g image.old p e n × (0 < n) }
     ensures { Dropping g p image.old n image.new result.last result.left × (result.left < n) }
 {
-    let k = layout::runs(image, g, e) - 1;
-    let len = layout::run_length(image, g, e, k);
-    let a = layout::run_start(image, g, e, k);
+    let disk = Disk { image, g };
+    let k = disk.runs(e) - 1;
+    let len = disk.run_length(e, k);
+    let a = disk.run_start(e, k);
+    let extension = disk.flag(e, layout::EXTENSION);
+    let before = disk.field(e, layout::BACK);
     if n < len {
         space::free_run(image, g, a + len - n, n);
         shorten(image, g, e, k, n);
         return Dropped { last: e, left: 0 };
     }
-    let extension = layout::flag(image, g, e, layout::EXTENSION);
-    let before = layout::field(image, g, e, layout::BACK);
     space::free_run(image, g, a, len);
     empty_pair(image, g, e, k);
     if extension && k == 0 {
@@ -99,15 +101,15 @@ pub fn trim_checked(image: &mut [u8], g: Geometry, h: Handle, checked: Refusal) 
     if let Err(refusal) = handle::admits_changing(image, g, h, ranged, 4, checked) {
         return Answer { refusal, handle: h };
     }
-    let keeps = layout::field(image, g, h.slot, layout::DAY);
+    let disk = Disk { image, g };
+    let keeps = disk.field(h.slot, layout::DAY);
     if !layout::is_set(keeps, layout::KEEPS_SPACE) {
-        let size = layout::size_of(image, g, h.slot);
-        let needed = extent::granules_for(g, size);
-        let extent = extent::measure(image, g, h.slot);
+        let needed = extent::granules_for(g, disk.size_of(h.slot));
+        let extent = extent::measure(&disk, h.slot);
         drop_last(image, g, h.slot, extent.last, extent.owned - needed);
     }
     Answer {
-        refusal: refusal::carried(checked, 0),
+        refusal: refusal::accepted(checked),
         handle: h,
     }
 }

@@ -11,11 +11,12 @@ ghost use Rattle.meaning.specs.Growth.{with_granules, lacking};
 ghost use Rattle.meaning.specs.Write.{store, size_after, with_size, write_of};
 ghost use Rattle.laws.specs.Steps.{Ready};
 ghost use Rattle.read.specs.Part.{Readable, Within};
-ghost use Rattle.growth.specs.Number.{number_of};
+ghost use Rattle.refusal.specs.Why.{number_of};
 ghost use Rattle.write.specs.Apart.{Apart};
 
-use growth::CannotGrow;
+use layout::Disk;
 use meaning::{Answer, Geometry, Handle, Mode, Refusal};
+use refusal::Why;
 
 // The first n bytes of src go to the file from byte i on: one walk along the chain and one part a granule.
 pub fn write_bytes(image: &mut [u8], g: Geometry, s: usize, i: usize, src: &[u8], n: usize)
@@ -26,7 +27,7 @@ pub fn write_bytes(image: &mut [u8], g: Geometry, s: usize, i: usize, src: &[u8]
     // a step takes what is left of a granule: no `for`
     while done < n {
         let m = read::part_of(g, i + done, n - done);
-        let p = seek::place(image, g, s, i + done);
+        let p = seek::place(&Disk { image, g }, s, i + done);
         copy::put_part(image, p, src, done, m);
         done += m;
     }
@@ -41,7 +42,7 @@ pub fn clear_bytes(image: &mut [u8], g: Geometry, s: usize, i: usize, n: usize)
     // a step takes what is left of a granule: no `for`
     while done < n {
         let m = read::part_of(g, i + done, n - done);
-        let p = seek::place(image, g, s, i + done);
+        let p = seek::place(&Disk { image, g }, s, i + done);
         copy::clear_part(image, p, m);
         done += m;
     }
@@ -77,13 +78,7 @@ fn put_record(image: &mut [u8], g: Geometry, s: usize, old: usize, at: usize, sr
 
 // The file at slot p, `old` bytes long, gets the granules of a size, or nothing is changed. Where the old size needs as many, nothing is
 // lacking, and the chain is not walked.
-fn grow_to(
-    image: &mut [u8],
-    g: Geometry,
-    p: usize,
-    old: usize,
-    size: usize,
-) -> Result<(), CannotGrow>
+fn grow_to(image: &mut [u8], g: Geometry, p: usize, old: usize, size: usize) -> Result<(), Why>
     requires { Ready g image.old p × (old ≤ granule_bytes g * length (owned g image.old p)) × (old < 16777216) × (size ≤ 33554432) }
     ensures { (number_of result ≡ first (cannot_grow g image.old p (lacking g image.old p (granules_for g size))))
         × (image.new
@@ -130,21 +125,19 @@ pub fn write_checked(
     if let Err(refusal) = handle::admits_changing(image, g, h, ranged, 4, checked) {
         return Answer { refusal, handle: h };
     }
-    let old = layout::size_of(image, g, h.slot);
+    let old = Disk { image, g }.size_of(h.slot);
     let end = h.at + n;
     let size = size_after(mode, old, end);
     if let Err(why) = grow_to(image, g, h.slot, old, size) {
         return Answer {
-            refusal: refusal::carried(checked, why.number()),
+            refusal: why.after(checked),
             handle: h,
         };
     }
     put_record(image, g, h.slot, old, h.at, buffer, n);
     put_size(image, g, h.slot, size);
-    let mut moved = h;
-    moved.at = end;
     Answer {
-        refusal: refusal::carried(checked, 0),
-        handle: moved,
+        refusal: refusal::accepted(checked),
+        handle: Handle { at: end, ..h },
     }
 }

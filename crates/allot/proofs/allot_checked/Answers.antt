@@ -1,7 +1,6 @@
-use Rattle.meaning.specs.Refusal.{carried}
-use Prim.Native.Nat.{ℕ, ◌<◌, ◌/◌, ◌^◌}
+use Prim.Native.Nat.{◌<◌, ◌/◌, ◌^◌}
 use Rattle.lists.specs.Sizes.{width-lt}
-use mathlib.Core.Path.{refl, ap, ◌∙◌}
+use mathlib.Core.Path.{refl}
 use native.Mathlib.Omega.{arith}
 use Rattle.growth.proofs.Handed.{ready}
 use Rattle.allot.proofs.Allotting.{refused, grew}
@@ -22,9 +21,9 @@ grow-requires c = let a = c.args in ready a.g a.image.now a.h c.sector_ranged-ra
 pub returns-in-Err-grow : goal.returns-in-Err-grow
 returns-in-Err-grow c = let e = c.in-Err-grow.ensures in
     grew _ _ _ _ c.sector_ranged-ranged.ensures c.granule_sectors-w.ensures.is
-    (handed _ _ _ c.requires (c.carried.ensures ∙ ap (λ (k : ℕ). carried c.args.checked k) c.number.ensures)) refl c.in_default.ensures e.0 e.1
+    (handed _ _ _ c.requires c.after.ensures) refl c.in_default.ensures e.0 e.1
 
 pub returns : goal.returns
 returns c = let e = c.in_default-grow.ensures in
-    grew _ _ _ _ c.sector_ranged-ranged.ensures c.granule_sectors-w.ensures.is (handed _ _ _ c.requires c.carried-2.ensures) refl
+    grew _ _ _ _ c.sector_ranged-ranged.ensures c.granule_sectors-w.ensures.is (handed _ _ _ c.requires c.accepted.ensures) refl
     c.in_default.ensures e.0 e.1

@@ -11,23 +11,17 @@ pub returns-then-not-name_holds : goal.returns-then-not-name_holds
 returns-then-not-name_holds c = nothing-whole _ _ _ (by-name _ _ _ (is-false c.name_holds.ensures c.if-not-name_holds.true))
 
 pub line-requires : goal.line-requires
-line-requires c = (
-  c.requires.0,
-  c.requires.1,
-  (let q = c.directory_sectors.ensures in let t = c.requires.0.thirty in omega arith),
-  c.requires.2,
-)
+line-requires c = (c.requires.0, (let q = c.slots.ensures.small in omega arith), c.requires.1)
 
 pub returns-in_err-l : goal.returns-in_err-l
 returns-in_err-l c = rw c.from_residual.ensures
-    (nothing-whole _ _ _ (by-line _ _ _ (lined _ _ _ c.requires.0 c.directory_sectors.ensures c.in_err-l.ensures)))
+    (nothing-whole _ _ _ (by-line _ _ _ (lined _ _ _ c.args.disk.now.room c.slots.ensures.is c.in_err-l.ensures)))
 
 pub size_holds-requires : goal.size_holds-requires
 size_holds-requires c = (
   c.requires.0,
-  c.requires.1,
   (let m = c.in_ok-l.ensures.few in omega arith),
-  lined-own _ _ _ (lined _ _ _ c.requires.0 c.directory_sectors.ensures c.in_ok-l.ensures),
+  lined-own _ _ _ (lined _ _ _ c.args.disk.now.room c.slots.ensures.is c.in_ok-l.ensures),
 )
 
 pub returns-then-not-size_holds : goal.returns-then-not-size_holds
@@ -35,4 +29,4 @@ returns-then-not-size_holds c = nothing-whole _ _ _ (by_size _ _ _ (is-false c.s
 
 pub returns : goal.returns
 returns c = is_whole _ _ _ (sym c.flag.ensures ∙ c.if-flag.false) (is-true c.name_holds.ensures c.if-not-name_holds.false)
-    (lined _ _ _ c.requires.0 c.directory_sectors.ensures c.in_ok-l.ensures) (is-true c.size_holds.ensures c.if-not-size_holds.false)
+    (lined _ _ _ c.args.disk.now.room c.slots.ensures.is c.in_ok-l.ensures) (is-true c.size_holds.ensures c.if-not-size_holds.false)

@@ -9,7 +9,7 @@ pub plan-requires : goal.plan-requires
 plan-requires c = (c.requires, length-replicate {A = ℕ} 256 0)
 
 pub returns-in-Err : goal.returns-in-Err
-returns-in-Err c = refused _ _ _ (handed _ _ _ c.requires c.carried.ensures) c.in-Err.ensures
+returns-in-Err c = refused _ _ _ c.in-Err.ensures
 
 pub take_all-requires : goal.take_all-requires
 take_all-requires c =
@@ -26,4 +26,4 @@ back_all-requires c =
 pub returns : goal.returns
 returns c =
     let p = c.in-Ok.ensures in
-    accepted _ _ _ (handed _ _ 0 c.requires c.carried-2.ensures) p (written-fits _ _ _ p.written c.plan.array_long) c.take_all.ensures c.back_all.ensures
+    accepted _ _ _ (handed _ _ 0 c.requires c.accepted.ensures) p (written-fits _ _ _ p.written c.plan.array_long) c.take_all.ensures c.back_all.ensures

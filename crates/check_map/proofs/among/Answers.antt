@@ -4,4 +4,4 @@ use mathlib.Core.Path.{ap}
 use Rattle.check_map.proofs.among.Goals as goal
 
 pub returns : goal.returns
-returns c = record { is = ap (λ (y : ℕ). bit_and y c.args.bits) c.read_eight.ensures.is; bytes = c.read_eight.ensures.bytes }
+returns c = record { is = ap (λ (y : ℕ). bit_and y c.args.bits) c.eight.ensures.is; bytes = c.eight.ensures.bytes }

@@ -7,11 +7,11 @@ use Rattle.check_map.proofs.gat_map.Goals as goal
 
 -- src/lib.rt:20:9
 pub gat_at-gat-requires : goal.gat_at-gat-requires
-gat_at-gat-requires c = omega (arith, c.requires.0.directory)
+gat_at-gat-requires c = omega (arith, c.args.disk.now.room.directory)
 
 -- src/lib.rt:22:5
 pub loop-b-init : goal.loop-b-init
-loop-b-init c = turning-start _ _ _ c.requires.1
+loop-b-init c = turning-start _ _ _ c.requires
 
 -- src/lib.rt:23:18
 pub overflow_sub-map : goal.overflow_sub-map
@@ -23,5 +23,5 @@ loop-b-preserved c = turning-step c.loop-b.invariant c.loop-b-test.true (c.share
 
 -- src/lib.rt:16:1
 pub returns : goal.returns
-returns c = turning-end _ _ _ c.requires.0 _
+returns c = turning-end _ _ _ c.args.disk.now.room _
     (rw (c.gat_at-gat.ensures ∙ add-zero _) at c.loop-b.invariant) c.loop-b-test.false

@@ -15,14 +15,14 @@ overflow_shl-mask-2 c = let b = base-at c.args.block c.min-at.ensures in
     c.requires.3).room in
     let q = c.requires.2 in omega arith
 
-pub read_eight-x-requires : goal.read_eight-x-requires
-read_eight-x-requires c = let b = base-at c.args.block c.min-at.ensures in
+pub eight-x-requires : goal.eight-x-requires
+eight-x-requires c = let b = base-at c.args.block c.min-at.ensures in
     let h = b.high in omega arith
 
 pub returns-then-x-mask-ne0 : goal.returns-then-x-mask-ne0
 returns-then-x-mask-ne0 c = let b = base-at c.args.block c.min-at.ensures in
     stretch-no c.args.map.now _ c.min-at.result _
-    c.args.n _ c.read_eight-x.ensures.is c.read_eight-x.ensures.bytes
+    c.args.n _ c.eight-x.ensures.is c.eight-x.ensures.bytes
     (lies c.args.unit c.args.n b
     c.requires.0 c.requires.1
     c.requires.3) (omega arith) c.if-x-mask-ne0.true
@@ -35,7 +35,7 @@ pub returns : goal.returns
 returns c = let b = base-at c.args.block c.min-at.ensures in
     stretch-yes c.args.map.now _
     c.min-at.result _ c.args.n _
-    c.read_eight-x.ensures.is c.read_eight-x.ensures.bytes
+    c.eight-x.ensures.is c.eight-x.ensures.bytes
     (lies c.args.unit
     c.args.n b
     c.requires.0

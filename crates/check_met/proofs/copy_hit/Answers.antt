@@ -5,4 +5,4 @@ use native.Mathlib.Omega.{arith}
 use Rattle.check_met.proofs.copy_hit.Goals as goal
 
 pub returns : goal.returns
-returns c = hit-copied c.args.g c.requires.0 (c.hit_at-hit.ensures ∙ add-zero _) (omega arith) c.copy_from_slice.ensures.after
+returns c = hit-copied c.args.disk.now.g c.args.disk.now.room (c.hit_at-hit.ensures ∙ add-zero _) (omega arith) c.copy_from_slice.ensures.after

@@ -4,4 +4,4 @@ use Rattle.check_names.proofs.key.Goals as goal
 
 pub returns : goal.returns
 unfolding key
-returns c = record { is = simp (c.eight.ensures, c.eight-2.ensures); small = omega arith }
+returns c = record { is = simp (c.eight.ensures.is, c.eight-2.ensures.is); small = omega arith }

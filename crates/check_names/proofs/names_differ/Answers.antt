@@ -7,7 +7,7 @@ pub loop-row-init : goal.loop-row-init
 loop-row-init c = (differing-start _ _, omega arith)
 
 pub row_differs-requires : goal.row_differs-requires
-row_differs-requires c = let l = c.loop-row in let p = c.requires in (p, c.loop-row-test.true, l.invariant.0)
+row_differs-requires c = let l = c.loop-row in (c.loop-row-test.true, l.invariant.0)
 
 pub returns-then-not-row_differs : goal.returns-then-not-row_differs
 returns-then-not-row_differs c = c.row_differs.ensures.bad c.if-not-row_differs.true

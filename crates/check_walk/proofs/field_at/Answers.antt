@@ -8,7 +8,7 @@ use Rattle.check_walk.proofs.field_at.Goals as goal
 pub returns : goal.returns
 unfolding field
 returns c = record {
-  is = c.from.ensures ∙ ap (λ (x : ℕ). get_or c.args.image.now (x + c.args.k) 0)
-      c.requires.1.is;
-  small = rw c.from.ensures (omega (arith, c.type_inv.image (c.args.at + c.args.k)));
+  is = c.from.ensures ∙ ap (λ (x : ℕ). get_or c.args.disk.now.image.now (x + c.args.k) 0)
+      c.requires.0.is;
+  small = omega arith;
 }

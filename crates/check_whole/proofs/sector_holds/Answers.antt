@@ -9,10 +9,9 @@ loop-s-init c = (seeing-start _ _ _ _ (column-are (omega arith)), omega arith, o
 
 pub slot_holds-requires : goal.slot_holds-requires
 slot_holds-requires c = (
-  c.requires.0,
   record
       { slot = record { low = omega arith; held = omega arith }; is = omega arith },
-  c.requires.2,
+  c.requires.1,
 )
 
 pub returns-then-not-slot_holds : goal.returns-then-not-slot_holds

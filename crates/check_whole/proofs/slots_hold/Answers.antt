@@ -5,24 +5,23 @@ use native.Mathlib.Omega.{arith}
 use Rattle.check_whole.proofs.slots_hold.Goals as goal
 
 pub loop-column-init : goal.loop-column-init
-loop-column-init c = seeing-start _ _ _ _ (sectors-are _ _ c.directory_sectors-columns.ensures)
+loop-column-init c = seeing-start _ _ _ _ (sectors-are _ _)
 
 pub sector_holds-requires : goal.sector_holds-requires
 sector_holds-requires c = (
-  c.requires.0,
   omega arith,
-  c.requires.1,
+  c.requires,
 )
 
 pub returns-then-not-sector_holds : goal.returns-then-not-sector_holds
-returns-then-not-sector_holds c = let loop-test = c.loop-column-test in let l = c.loop-column in
-    seeing-stop _ _ (sector_slots l.column) _ (seeing-as _ _ l.invariant (sectors-more loop-test.true)) c.sector_holds.ensures
+returns-then-not-sector_holds c = let l = c.loop-column in
+    seeing-stop _ _ (sector_slots l.column) _ (seeing-as _ _ l.invariant (sectors-more (omega arith))) c.sector_holds.ensures
     c.if-not-sector_holds.true
 
 pub loop-column-preserved : goal.loop-column-preserved
-loop-column-preserved c = let loop-test = c.loop-column-test in let l = c.loop-column in
-    seeing-step _ _ (sector_slots l.column) _ (seeing-as _ _ l.invariant (sectors-more loop-test.true)) c.sector_holds.ensures
+loop-column-preserved c = let l = c.loop-column in
+    seeing-step _ _ (sector_slots l.column) _ (seeing-as _ _ l.invariant (sectors-more (omega arith))) c.sector_holds.ensures
     c.if-not-sector_holds.false
 
 pub returns : goal.returns
-returns c = seeing-end _ _ (seeing-as _ _ c.loop-column.invariant (sectors-none c.loop-column-test.false))
+returns c = seeing-end _ _ (seeing-as _ _ c.loop-column.invariant (sectors-none (omega arith)))

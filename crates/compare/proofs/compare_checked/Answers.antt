@@ -13,6 +13,12 @@ returns-then-checked2-ne0 c =
     second-refused _ _ _ _ _ (c.tells_none-then-checked2-ne0.ensures ∙ ap tells_none c.naming-then-checked2-ne0.ensures) p.0 if1.false p.1
     c.if-checked2-ne0.true
 
+pub invariant_of-first : goal.invariant_of-first
+invariant_of-first c = record { room = (whole _ _ c.requires.0 c.if-checked-ne0.false).sound.room }
+
+pub invariant_of-second : goal.invariant_of-second
+invariant_of-second c = record { room = (whole _ _ c.requires.1 c.if-checked2-ne0.false).sound.room }
+
 pub told-requires : goal.told-requires
 told-requires c = let p = c.requires in (whole _ _ p.0 c.if-checked-ne0.false, whole _ _ p.1 c.if-checked2-ne0.false)
 

@@ -15,13 +15,14 @@ returns-in-Second c = diff-at _ _ _ _ c.in-Second.is (c.name_only-in-Second.ensu
 pub returns-then-system-2 : goal.returns-then-system-2
 returns-then-system-2 c = let a = c.args in diff-at _ _ _ _ c.in-Both.is (diff-system _ _ _ _ _ _
     (elim c.if-system.branch [
-      | then-system w ↦ ap (λ (b : Bool). b || system a.h a.second.now c.in-Both.t) (sym c.system.ensures ∙ w.if-system.true)
+      | then-system w ↦ ap (λ (b : Bool). b || system a.second.now.g a.second.now.image.now c.in-Both.t) (sym c.system.ensures ∙ w.if-system.true)
       | else-system w ↦ λ i. (sym c.system.ensures ∙ w.if-system.false) i || (sym w.system-else-system.ensures ∙ sym w.value-is ∙ c.if-system-2.true) i
     ]) c.name_only-then-system-2.ensures)
 
 pub returns-else-system-2 : goal.returns-else-system-2
 returns-else-system-2 c = let a = c.args in diff-at _ _ _ _ c.in-Both.is (diff-unlike _ _ _ _ _ _
-    (elim c.if-system.branch as (λ w. (system a.g a.first.now c.in-Both.s || system a.h a.second.now c.in-Both.t) ≡ false) [
+    (elim c.if-system.branch as (λ w. (system a.first.now.g a.first.now.image.now c.in-Both.s
+    || system a.second.now.g a.second.now.image.now c.in-Both.t) ≡ false) [
       | then-system w ↦ never (sym w.if-system.true ∙ sym w.value-is ∙ c.if-system-2.false)
       | else-system w ↦ λ i. (sym c.system.ensures ∙ w.if-system.false) i || (sym w.system-else-system.ensures ∙ sym w.value-is ∙ c.if-system-2.false) i
     ]) c.unlike.ensures)

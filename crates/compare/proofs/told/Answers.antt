@@ -21,7 +21,7 @@ returns-then-left-eq0 c =
 
 pub returns : goal.returns
 returns c =
-    c.tells_none.ensures ∙ ap tells_none c.unplaced.ensures ∙ both_end _ _ _ _ _ _ _ _ _ _ _ _ c.loop-p.invariant c.in_default.ensures
+    c.tells_none.ensures ∙ ap tells_none c.none.ensures ∙ both_end _ _ _ _ _ _ _ _ _ _ _ _ c.loop-p.invariant c.in_default.ensures
 
 pub loop-p-smaller-in-First : goal.loop-p-smaller-in-First
 loop-p-smaller-in-First c =

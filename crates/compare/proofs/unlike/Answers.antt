@@ -7,11 +7,8 @@ parting_at-at-requires c =
     let p = c.requires in
     (p.0, p.1, p.2, p.3, c.size_of-n.ensures.is, c.size_of-m.ensures.is, c.size_of-n.ensures.small, c.size_of-m.ensures.small)
 
-pub name_of-requires : goal.name_of-requires
-name_of-requires c = let p = c.requires in (p.0.sound.room, p.2.slot)
-
 pub returns : goal.returns
-returns c = let a = c.args in unlike-is a.g a.first.now a.h a.second.now a.s a.t c.unplaced.ensures
+returns c = let a = c.args in unlike-is a.first.now.g a.first.now.image.now a.second.now.g a.second.now.image.now a.s a.t c.none.ensures
     c.name_of.ensures
     c.size_of-n.ensures.is
     c.size_of-m.ensures.is

@@ -81,7 +81,7 @@ overflow_add-q c =
 pub overflow_add-pe : goal.overflow_add-pe
 overflow_add-pe c = let part = c.part-len in let reach = c.reach-a in let l = c.loop-i in let a = c.args in let p = c.requires in omega (
   arith,
-  (run_fits a.g a.first.now a.s l.i part.result reach.ensures.0 reach.ensures.1
+  (run_fits a.first.now.g a.first.now.image.now a.s l.i part.result reach.ensures.0 reach.ensures.1
       (omega (arith, part.ensures.1, reach.ensures.2))),
   p.0.sound.room.long,
   p.0.sound.room.far,
@@ -90,7 +90,7 @@ overflow_add-pe c = let part = c.part-len in let reach = c.reach-a in let l = c.
 pub overflow_add-qe : goal.overflow_add-qe
 overflow_add-qe c = let part = c.part-len in let reach2 = c.reach-b in let l = c.loop-i in let a = c.args in let p = c.requires in omega (
   arith,
-  (run_fits a.h a.second.now a.t l.i part.result reach2.ensures.0 reach2.ensures.1
+  (run_fits a.second.now.g a.second.now.image.now a.t l.i part.result reach2.ensures.0 reach2.ensures.1
       (omega (arith, part.ensures.2, reach2.ensures.2))),
   p.1.sound.room.long,
   p.1.sound.room.far,
@@ -108,7 +108,7 @@ slice_bounds-alike-end c =
     let reach = c.reach-a in
     let l = c.loop-i in
     let a = c.args in
-    (run_fits a.g a.first.now a.s l.i part.result reach.ensures.0 reach.ensures.1
+    (run_fits a.first.now.g a.first.now.image.now a.s l.i part.result reach.ensures.0 reach.ensures.1
     (omega (arith, part.ensures.1, reach.ensures.2)))
 
 pub slice_bounds-alike-count-in-loop-i : goal.slice_bounds-alike-count-in-loop-i
@@ -123,7 +123,7 @@ slice_bounds-alike-end-in-loop-i c =
     let reach2 = c.reach-b in
     let l = c.loop-i in
     let a = c.args in
-    (run_fits a.h a.second.now a.t l.i part.result reach2.ensures.0 reach2.ensures.1
+    (run_fits a.second.now.g a.second.now.image.now a.t l.i part.result reach2.ensures.0 reach2.ensures.1
     (omega (arith, part.ensures.2, reach2.ensures.2)))
 
 pub alike-c-requires : goal.alike-c-requires
@@ -133,10 +133,10 @@ alike-c-requires c =
     let reach = c.reach-a in
     let l = c.loop-i in
     let a = c.args in
-    ap length (run_is a.g a.first.now a.s l.i part.result reach.ensures.0 reach.ensures.1
-    (omega (arith, part.ensures.1, reach.ensures.2))) ∙ length-fetch a.g a.first.now a.s l.i part.result
-    ∙ sym (ap length (run_is a.h a.second.now a.t l.i part.result reach2.ensures.0 reach2.ensures.1
-    (omega (arith, part.ensures.2, reach2.ensures.2))) ∙ length-fetch a.h a.second.now a.t l.i part.result)
+    ap length (run_is a.first.now.g a.first.now.image.now a.s l.i part.result reach.ensures.0 reach.ensures.1
+    (omega (arith, part.ensures.1, reach.ensures.2))) ∙ length-fetch a.first.now.g a.first.now.image.now a.s l.i part.result
+    ∙ sym (ap length (run_is a.second.now.g a.second.now.image.now a.t l.i part.result reach2.ensures.0 reach2.ensures.1
+    (omega (arith, part.ensures.2, reach2.ensures.2))) ∙ length-fetch a.second.now.g a.second.now.image.now a.t l.i part.result)
 
 pub overflow_add-result : goal.overflow_add-result
 overflow_add-result c =
@@ -153,13 +153,13 @@ overflow_add-result c =
       (least-first _ _ least.ensures),
       p.6,
       loop-test.true,
-      (run_fits a.g a.first.now a.s l.i part.result reach.ensures.0 reach.ensures.1
+      (run_fits a.first.now.g a.first.now.image.now a.s l.i part.result reach.ensures.0 reach.ensures.1
           (omega (arith, part.ensures.1, reach.ensures.2))),
       p.0.sound.room.long,
       p.0.sound.room.far,
       ap length
-          (run_is a.g a.first.now a.s l.i part.result reach.ensures.0 reach.ensures.1
-          (omega (arith, part.ensures.1, reach.ensures.2))) ∙ length-fetch a.g a.first.now a.s l.i part.result,
+          (run_is a.first.now.g a.first.now.image.now a.s l.i part.result reach.ensures.0 reach.ensures.1
+          (omega (arith, part.ensures.1, reach.ensures.2))) ∙ length-fetch a.first.now.g a.first.now.image.now a.s l.i part.result,
     )
 
 pub returns-then-c-len : goal.returns-then-c-len
@@ -173,9 +173,9 @@ returns-then-c-len c =
     let a = c.args in
     matches-stop _ _ _ _ _ _ _ _ _ l.i part.result (least-first _ _ least.ensures) (least-second _ _ least.ensures)
     (omega (arith, part.ensures.3, loop-test.true))
-    (run_is a.g a.first.now a.s l.i part.result reach.ensures.0 reach.ensures.1
+    (run_is a.first.now.g a.first.now.image.now a.s l.i part.result reach.ensures.0 reach.ensures.1
     (omega (arith, part.ensures.1, reach.ensures.2)))
-    (run_is a.h a.second.now a.t l.i part.result reach2.ensures.0 reach2.ensures.1
+    (run_is a.second.now.g a.second.now.image.now a.t l.i part.result reach2.ensures.0 reach2.ensures.1
     (omega (arith, part.ensures.2, reach2.ensures.2))) c.alike-c.ensures.0 c.if-c-len.true l.invariant.0
 
 pub overflow_add-i : goal.overflow_add-i
@@ -200,9 +200,9 @@ loop-i-preserved c =
     let a = c.args in (
       matches-on _ _ _ _ _ _ _ _ _ l.i part.result (least-first _ _ least.ensures) (least-second _ _ least.ensures)
           (omega (arith, part.ensures.3, loop-test.true))
-          (run_is a.g a.first.now a.s l.i part.result reach.ensures.0 reach.ensures.1
+          (run_is a.first.now.g a.first.now.image.now a.s l.i part.result reach.ensures.0 reach.ensures.1
           (omega (arith, part.ensures.1, reach.ensures.2)))
-          (run_is a.h a.second.now a.t l.i part.result reach2.ensures.0 reach2.ensures.1
+          (run_is a.second.now.g a.second.now.image.now a.t l.i part.result reach2.ensures.0 reach2.ensures.1
           (omega (arith, part.ensures.2, reach2.ensures.2))) c.alike-c.ensures.0 c.if-c-len.false l.invariant.0,
       reach.ensures.0,
       omega (arith, reach.ensures.1),

@@ -13,7 +13,7 @@ loop-low-preserved-then-slot_before c =
     let a = c.args in
     let p = c.requires in
     halving-up _ _ _ _ _ _ _ _ p.2 l.invariant (omega (arith, l.invariant.between, loop-test.true)) (omega (arith, l.invariant.between, loop-test.true))
-    (sym (ap (λ (x : ℕ). before (name_of a.g a.image.now x) (name_of a.g a.image.now a.s)) c.from.ensures) ∙ sym
+    (sym (ap (λ (x : ℕ). before (name_of a.disk.now.g a.disk.now.image.now x) (name_of a.disk.now.g a.disk.now.image.now a.s)) c.from.ensures) ∙ sym
     c.slot_before.ensures ∙ c.if-slot_before.true)
 
 pub loop-low-preserved : goal.loop-low-preserved
@@ -23,5 +23,5 @@ loop-low-preserved c =
     let a = c.args in
     let p = c.requires in
     halving-down _ _ _ _ _ _ _ _ p.2 l.invariant (omega (arith, l.invariant.between, loop-test.true)) (omega (arith, l.invariant.between, loop-test.true)) p.0
-    p.1 (sym (ap (λ (x : ℕ). before (name_of a.g a.image.now x) (name_of a.g a.image.now a.s)) c.from.ensures) ∙
+    p.1 (sym (ap (λ (x : ℕ). before (name_of a.disk.now.g a.disk.now.image.now x) (name_of a.disk.now.g a.disk.now.image.now a.s)) c.from.ensures) ∙
     sym c.slot_before.ensures ∙ c.if-slot_before.false)

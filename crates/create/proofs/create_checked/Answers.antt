@@ -1,13 +1,12 @@
 use native.Mathlib.Omega.{arith}
-use mathlib.Core.Path.{◌∙◌, ap, refl}
-use mathlib.Core.Bool.{false}
+use mathlib.Core.Path.{◌∙◌, ap}
 use mathlib.Core.List.{List}
 use lib.ListN.{length}
 use Rattle.name_spelling.proofs.Comes.{hands-bad, hands-good, hands-name}
 use Rattle.meaning.specs.Open.{opened_at}
 use Rattle.meaning.specs.Create.{with_entry}
 use Rattle.layout.proofs.HasRoom.{entry-fits}
-use Rattle.lists.specs.Tests.{is-false, is-true, not-no, not_yes}
+use Rattle.lists.specs.Tests.{is-false, is-true}
 use Rattle.layout.proofs.OneStep.{well-length}
 use Rattle.passed.proofs.Checked.{checked, checked-room}
 use Rattle.look_up.proofs.Named.{by-own, by_place, by_number}
@@ -18,36 +17,36 @@ use Rattle.create.proofs.create_checked.Goals as goal
 
 pub returns-then-checked-ne0 : goal.returns-then-checked-ne0
 returns-then-checked-ne0 c = let p = c.requires in
-    told _ _ _ _ _ (by-own _ _ _ p refl) c.refused.ensures (by-check _ _ _ _ _ p c.if-checked-ne0.true) c.if-checked-ne0.true
+    told _ _ _ _ _ (by-own _ _ _ p) c.refused.ensures (by-check _ _ _ _ _ p c.if-checked-ne0.true) c.if-checked-ne0.true
 
 pub returns-then-not-in_range : goal.returns-then-not-in_range
-returns-then-not-in_range c = told _ _ _ _ _ (by_number _ _ _ c.requires 12 (λ z. omega arith) refl)
+returns-then-not-in_range c = told _ _ _ _ _ (by_number _ _ _ c.requires 12 (λ z. omega arith) c.after.ensures)
     c.refused-then-not-in_range.ensures (by-range _ _ _ _ _ c.requires c.if-checked-ne0.false
     (is-false c.in_range.ensures c.if-not-in_range.true)) (λ z. omega arith)
 
 pub returns-then-n-ne-NO_PLACE : goal.returns-then-n-ne-NO_PLACE
 returns-then-n-ne-NO_PLACE c = told _ _ _ _ _
     (by_place _ _ _ c.requires
-    c.if-checked-ne0.false c.placed.ensures c.incoming-n.ensures.place)
-    (λ i. record { refusal = c.placed.result; old = false; handle = c.no_handle.ensures i })
+    c.if-checked-ne0.false c.refusal_at.ensures c.incoming-n.ensures.place)
+    c.refused-then-n-ne-NO_PLACE.ensures
     (by_name _ _ _ _ _ c.requires
     c.if-checked-ne0.false
     (is-true c.in_range.ensures c.if-not-in_range.false)
     (hands-bad c.incoming-n.ensures c.if-n-ne-NO_PLACE.true)) (λ z. omega arith)
 
+pub invariant_of-disk : goal.invariant_of-disk
+invariant_of-disk c = record { room = checked-room _ _ (checked _ _ c.requires c.if-checked-ne0.false) }
+
 pub find-requires : goal.find-requires
-find-requires c = let if3 = c.if-n-ne-NO_PLACE in let incoming = c.incoming-n in let if1 = c.if-checked-ne0 in let p = c.requires in (
-  checked-room _ _ (checked _ _ p if1.false),
-  (ap length (hands-name incoming.ensures if3.false) ∙ well-length _ (hands-good incoming.ensures if3.false)),
-)
+find-requires c = let if3 = c.if-n-ne-NO_PLACE in let incoming = c.incoming-n in
+    ap length (hands-name incoming.ensures if3.false) ∙ well-length _ (hands-good incoming.ensures if3.false)
 
 pub admits-requires : goal.admits-requires
-admits-requires c = let if1 = c.if-checked-ne0 in let p = c.requires in
-    (checked-room _ _ (checked _ _ p if1.false), finds-slot _ _ _ c.find.ensures c.in-Some.is)
+admits-requires c = finds-slot _ _ _ c.find.ensures c.in-Some.is
 
 pub returns-then-not-admits : goal.returns-then-not-admits
 returns-then-not-admits c = told _ _ _ _ _
-    (by_number _ _ _ c.requires 5 (λ z. omega arith) refl) c.refused-then-not-admits.ensures
+    (by_number _ _ _ c.requires 5 (λ z. omega arith) c.after-then-not-admits.ensures) c.refused-then-not-admits.ensures
     (by_code _ _ _ _ _ c.requires c.if-checked-ne0.false
     (is-true c.in_range.ensures
     c.if-not-in_range.false)
@@ -60,19 +59,17 @@ returns-then-not-admits c = told _ _ _ _ _
     (is-false c.admits.ensures c.if-not-admits.true)) (λ z. omega arith)
 
 pub opened_at-requires : goal.opened_at-requires
-opened_at-requires c = let find = c.find in let if3 = c.if-n-ne-NO_PLACE in let incoming = c.incoming-n in
-    let if1 = c.if-checked-ne0 in let p = c.requires in (
-      checked-room _ _ (checked _ _ p if1.false),
-      finds-slot _ _ _ find.ensures c.in-Some.is,
-      (ap length (hands-name incoming.ensures if3.false) ∙ well-length _ (hands-good incoming.ensures if3.false)),
-    )
+opened_at-requires c = let find = c.find in let if3 = c.if-n-ne-NO_PLACE in let incoming = c.incoming-n in (
+  finds-slot _ _ _ find.ensures c.in-Some.is,
+  (ap length (hands-name incoming.ensures if3.false) ∙ well-length _ (hands-good incoming.ensures if3.false)),
+)
 
 pub returns-in-Some : goal.returns-in-Some
 returns-in-Some c = let e = finds-one _ _ _
     (finds-as _ _ _ (hands-name c.incoming-n.ensures c.if-n-ne-NO_PLACE.false) c.find.ensures)
     c.in-Some.is in
     opened _ _ _ _ _ (by_number _ _ _
-    c.requires 0 (λ z. omega arith) c.carried.ensures)
+    c.requires 0 (λ z. omega arith) c.accepted.ensures)
     (is-old _ _ _ _ _ c.requires
     c.if-checked-ne0.false (is-true c.in_range.ensures c.if-not-in_range.false)
     (hands-good c.incoming-n.ensures c.if-n-ne-NO_PLACE.false) e (is-true c.admits.ensures
@@ -86,12 +83,9 @@ returns-in-Some c = let e = finds-one _ _ _
     c.args.f.main)
     (hands-name c.incoming-n.ensures c.if-n-ne-NO_PLACE.false))
 
-pub first_free_slot-requires : goal.first_free_slot-requires
-first_free_slot-requires c = let if1 = c.if-checked-ne0 in let p = c.requires in checked-room _ _ (checked _ _ p if1.false)
-
 pub returns-in-None : goal.returns-in-None
 returns-in-None c = told _ _ _ _ _
-    (by_number _ _ _ c.requires 8 (λ z. omega arith) refl) c.refused-in-None.ensures
+    (by_number _ _ _ c.requires 8 (λ z. omega arith) c.after-in-None.ensures) c.refused-in-None.ensures
     (by-slot _ _ _ _ _ c.requires c.if-checked-ne0.false
     (is-true c.in_range.ensures
     c.if-not-in_range.false)
@@ -126,7 +120,7 @@ returns c = let a = c.args in let w = slot-some a.g a.image.now c.in-Some-first_
     c.find.ensures)
     c.in_default.is in
     made _ _ _ _ _ (by_number _ _ _
-    c.requires 0 (λ z. omega arith) c.carried-2.ensures)
+    c.requires 0 (λ z. omega arith) c.accepted-2.ensures)
     (is-new _ _ _ _ _ c.requires
     c.if-checked-ne0.false
     (is-true c.in_range.ensures

@@ -1,3 +1,4 @@
+use native.Mathlib.Omega.{arith}
 use mathlib.Core.Path.{ap, sym, ◌∙◌}
 use Rattle.drives.specs.ByName.{not_created}
 use Rattle.drives.specs.Pair.{pair}
@@ -5,34 +6,29 @@ use Rattle.drives_calls.proofs.Named.{tested-is, first-passed, takes-1, created-
 use Rattle.drives_calls.proofs.Named.{create-0, create-1, create-none, create-stopped, create-passed}
 use Rattle.drives_calls.proofs.create.Goals as goal
 
-pub returns-then-drive-eq0 : goal.returns-then-drive-eq0
-returns-then-drive-eq0 c =
+pub returns-in-0 : goal.returns-in-0
+returns-in-0 c =
     let a = c.args in
     let the-if1 = c.if-numbered in
-    let the-if2 = c.if-drive-eq0 in
     let the-create = c.create in
-    create-0 _ _ _ _ _ _ the-if1.true the-if2.true (created-0 (pair a.g0 a.image0.now a.g1 a.image1.now) _ _ _
+    create-0 _ _ _ _ _ _ the-if1.true c.in-0.is (created-0 (pair a.g0 a.image0.now a.g1 a.image1.now) _ _ _
     c.created_on.ensures the-create.ensures)
 
-pub returns-then-drive-eq1 : goal.returns-then-drive-eq1
-returns-then-drive-eq1 c =
+pub returns-in-1 : goal.returns-in-1
+returns-in-1 c =
     let a = c.args in
     let the-if1 = c.if-numbered in
-    let the-if2 = c.if-drive-eq0 in
-    let the-if3 = c.if-drive-eq1 in
-    let the-create2 = c.create-then-drive-eq1 in
-    create-1 _ _ _ _ _ _ the-if1.true the-if2.false the-if3.true (created-1 (pair a.g0 a.image0.now a.g1 a.image1.now) _ _
-    _ c.created_on-then-drive-eq1.ensures the-create2.ensures)
+    let the-create2 = c.create-in-1 in
+    create-1 _ _ _ _ _ _ the-if1.true (λ z. let e = c.in-1.is in omega (arith, z, e)) c.in-1.is (created-1 (pair a.g0 a.image0.now a.g1 a.image1.now) _ _
+    _ c.created_on-in-1.ensures the-create2.ensures)
 
-pub returns-then-numbered : goal.returns-then-numbered
-returns-then-numbered c =
+pub returns-in_default : goal.returns-in_default
+returns-in_default c =
     let a = c.args in
     let the-if1 = c.if-numbered in
-    let the-if2 = c.if-drive-eq0 in
-    let the-if3 = c.if-drive-eq1 in
     let e = c.not_created.ensures ∙ ap not_created c.no_such_drive.ensures in
     create-none _ _ _ _ _ _ the-if1.true
-    the-if2.false the-if3.false (λ i. (e i, a.image0.now, a.image1.now))
+    (λ z. let e = c.in_default in omega (arith, z, e)) (λ z. let e = c.in_default in omega (arith, z, e)) (λ i. (e i, a.image0.now, a.image1.now))
 
 pub returns-then-checked-ne0 : goal.returns-then-checked-ne0
 returns-then-checked-ne0 c =

@@ -5,28 +5,24 @@ use Rattle.drives_calls.proofs.look_up.Goals as goal
 pub looked_up_on-requires : goal.looked_up_on-requires
 looked_up_on-requires c = (omega arith, few _ _ _ c.look_up.ensures)
 
-pub returns-then-drive-eq0 : goal.returns-then-drive-eq0
-returns-then-drive-eq0 c =
+pub returns-in-0 : goal.returns-in-0
+returns-in-0 c =
     let the-if1 = c.if-numbered in
-    let the-if2 = c.if-drive-eq0 in
-    look-0 _ _ _ _ the-if1.true the-if2.true c.look_up.ensures c.looked_up_on.ensures
+    look-0 _ _ _ _ the-if1.true c.in-0.is c.look_up.ensures c.looked_up_on.ensures
 
-pub looked_up_on-requires-then-drive-eq1 : goal.looked_up_on-requires-then-drive-eq1
-looked_up_on-requires-then-drive-eq1 c = (omega arith, few _ _ _ c.look_up-then-drive-eq1.ensures)
+pub looked_up_on-requires-in-1 : goal.looked_up_on-requires-in-1
+looked_up_on-requires-in-1 c = (omega arith, few _ _ _ c.look_up-in-1.ensures)
 
-pub returns-then-drive-eq1 : goal.returns-then-drive-eq1
-returns-then-drive-eq1 c =
+pub returns-in-1 : goal.returns-in-1
+returns-in-1 c =
     let the-if1 = c.if-numbered in
-    let the-if2 = c.if-drive-eq0 in
-    let the-if3 = c.if-drive-eq1 in
-    look-1 _ _ _ _ the-if1.true the-if2.false the-if3.true c.look_up-then-drive-eq1.ensures c.looked_up_on-then-drive-eq1.ensures
+    look-1 _ _ _ _ the-if1.true (λ z. let e = c.in-1.is in omega (arith, z, e)) c.in-1.is c.look_up-in-1.ensures c.looked_up_on-in-1.ensures
 
-pub returns-then-numbered : goal.returns-then-numbered
-returns-then-numbered c =
+pub returns-in_default : goal.returns-in_default
+returns-in_default c =
     let the-if1 = c.if-numbered in
-    let the-if2 = c.if-drive-eq0 in
-    let the-if3 = c.if-drive-eq1 in
-    look_none _ _ _ _ the-if1.true the-if2.false the-if3.false c.no_such_drive.ensures c.not_looked_up.ensures
+    look_none _ _ _ _ the-if1.true
+    (λ z. let e = c.in_default in omega (arith, z, e)) (λ z. let e = c.in_default in omega (arith, z, e)) c.no_such_drive.ensures c.not_looked_up.ensures
 
 pub returns-then-checked-ne0 : goal.returns-then-checked-ne0
 returns-then-checked-ne0 c =

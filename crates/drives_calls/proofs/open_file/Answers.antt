@@ -1,25 +1,22 @@
+use native.Mathlib.Omega.{arith}
 use Rattle.drives_calls.proofs.Named.{tested-is, search-0, search-1, open-0, open-1, open_none, open-stopped, open-passed}
 use Rattle.drives_calls.proofs.open_file.Goals as goal
 
-pub returns-then-drive-eq0 : goal.returns-then-drive-eq0
-returns-then-drive-eq0 c =
+pub returns-in-0 : goal.returns-in-0
+returns-in-0 c =
     let the-if1 = c.if-numbered in
-    let the-if2 = c.if-drive-eq0 in
-    open-0 _ _ _ _ _ _ _ the-if1.true the-if2.true c.open_file.ensures c.opened_on.ensures
+    open-0 _ _ _ _ _ _ _ the-if1.true c.in-0.is c.open_file.ensures c.opened_on.ensures
 
-pub returns-then-drive-eq1 : goal.returns-then-drive-eq1
-returns-then-drive-eq1 c =
+pub returns-in-1 : goal.returns-in-1
+returns-in-1 c =
     let the-if1 = c.if-numbered in
-    let the-if2 = c.if-drive-eq0 in
-    let the-if3 = c.if-drive-eq1 in
-    open-1 _ _ _ _ _ _ _ the-if1.true the-if2.false the-if3.true c.open_file-then-drive-eq1.ensures c.opened_on-then-drive-eq1.ensures
+    open-1 _ _ _ _ _ _ _ the-if1.true (λ z. let e = c.in-1.is in omega (arith, z, e)) c.in-1.is c.open_file-in-1.ensures c.opened_on-in-1.ensures
 
-pub returns-then-numbered : goal.returns-then-numbered
-returns-then-numbered c =
+pub returns-in_default : goal.returns-in_default
+returns-in_default c =
     let the-if1 = c.if-numbered in
-    let the-if2 = c.if-drive-eq0 in
-    let the-if3 = c.if-drive-eq1 in
-    open_none _ _ _ _ _ _ _ the-if1.true the-if2.false the-if3.false c.no_such_drive.ensures c.not_opened.ensures
+    open_none _ _ _ _ _ _ _ the-if1.true
+    (λ z. let e = c.in_default in omega (arith, z, e)) (λ z. let e = c.in_default in omega (arith, z, e)) c.no_such_drive.ensures c.not_opened.ensures
 
 pub returns-then-checked-ne0 : goal.returns-then-checked-ne0
 returns-then-checked-ne0 c =

@@ -11,8 +11,8 @@ returns-then-second-ne4 c =
     let the-look-up-checked2 = c.look_up_checked-second in
     takes-found-1 _ _ the-look-up-checked.ensures the-look-up-checked2.ensures the-if1.false c.if-second-ne4.true
 
-pub first_free_slot-requires : goal.first_free_slot-requires
-first_free_slot-requires c = let the-pre = c.requires in room _ _ the-pre.0 the-pre.1
+pub invariant_of-first_free_slot : goal.invariant_of-first_free_slot
+invariant_of-first_free_slot c = record { room = room _ _ c.requires.0 c.requires.1 }
 
 pub returns-in-None : goal.returns-in-None
 returns-in-None c =

@@ -14,18 +14,18 @@ asked : {r b : ℕ} (k : ℕ) {v t : Bool} → r ≡ b → v ≡ eqb r k → v �
 asked k e q y = ap (λ (n : ℕ). eqb n k) (sym e) ∙ sym q ∙ y
 
 pub field-requires : goal.field-requires
-field-requires c = (c.requires, slot-of _ _ _ (is-true c.is_slot.ensures c.if-is_slot.true), omega arith)
+field-requires c = (slot-of _ _ _ (is-true c.is_slot.ensures c.if-is_slot.true), omega arith)
 
 pub field-requires-then-field-flags : goal.field-requires-then-field-flags
 field-requires-then-field-flags c = elim c.if-is_slot.branch [
-  | then-is_slot w ↦ (c.requires, slot-of _ _ _ (is-true c.is_slot.ensures w.if-is_slot.true), omega arith)
+  | then-is_slot w ↦ (slot-of _ _ _ (is-true c.is_slot.ensures w.if-is_slot.true), omega arith)
   | else-is_slot w ↦ not-both c.if-field-flags.true (w.value-is ∙ w.if-is_slot.false)
 ]
 
 pub runs-requires : goal.runs-requires
 runs-requires c = let yes = c.if-field-s.true in elim c.if-field-flags.branch [
   | then-field-flags w ↦ elim c.if-is_slot.branch [
-    | then-is_slot v ↦ (c.requires, slot-of _ _ _ (is-true c.is_slot.ensures v.if-is_slot.true))
+    | then-is_slot v ↦ (slot-of _ _ _ (is-true c.is_slot.ensures v.if-is_slot.true))
     | else-is_slot v ↦ not-both w.if-field-flags.true (v.value-is ∙ v.if-is_slot.false)
   ]
   | else-field-flags w ↦ not-both yes (w.value-is ∙ w.if-field-flags.false)

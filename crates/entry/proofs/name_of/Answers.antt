@@ -3,4 +3,4 @@ use mathlib.Core.Path.{◌∙◌}
 use Rattle.entry.proofs.name_of.Goals as goal
 
 pub returns : goal.returns
-returns c = c.copy_from_slice.ensures.after ∙ name-is _ _ _ c.requires.0 c.requires.1 c.name_at-at.ensures
+returns c = c.copy_from_slice.ensures.after ∙ name-is _ _ _ c.args.disk.now.room c.requires c.name_at-at.ensures

@@ -5,5 +5,5 @@ use Rattle.fault_clear.proofs.names_clear.Goals as goal
 pub returns-then-names_differ : goal.returns-then-names_differ
 returns-then-names_differ c = names-all _ _ (sym c.names_differ.ensures ∙ c.if-names_differ.true)
 
-pub returns : goal.returns
-returns c = names-none _ _
+pub returns-else-names_differ : goal.returns-else-names_differ
+returns-else-names_differ c = names-none _ _

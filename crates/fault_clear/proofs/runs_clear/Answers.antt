@@ -7,7 +7,7 @@ pub loop-s-init : goal.loop-s-init
 loop-s-init c = clearing-start _ _ c.gat_map.ensures
 
 pub taken_off-requires : goal.taken_off-requires
-taken_off-requires c = (c.requires, c.loop-s.invariant)
+taken_off-requires c = (c.loop-s.invariant)
 
 pub returns-then-not-taken_off : goal.returns-then-not-taken_off
 returns-then-not-taken_off c = c.loop-s.invariant.clear

@@ -6,14 +6,14 @@ use Rattle.laws.specs.Passed.{check-one, check-none, check-fault}
 use Rattle.fault_diagnosis.proofs.check.Goals as goal
 
 pub returns-then-not-fits_geometry : goal.returns-then-not-fits_geometry
-returns-then-not-fits_geometry c = c.unplaced.ensures ∙ sym (check-one _ _ (is-false c.fits_geometry.ensures c.if-not-fits_geometry.true))
+returns-then-not-fits_geometry c = c.refusal.ensures ∙ sym (check-one _ _ (is-false c.fits_geometry.ensures c.if-not-fits_geometry.true))
 
 pub consistent-requires : goal.consistent-requires
 consistent-requires c = fits _ _ (is-true c.fits_geometry.ensures c.if-not-fits_geometry.false)
 
 pub returns-then-consistent : goal.returns-then-consistent
 returns-then-consistent c = let if1 = c.if-not-fits_geometry in let fits-geometry = c.fits_geometry in
-    c.unplaced-then-consistent.ensures ∙ sym (check-none _ _ (is-true fits-geometry.ensures if1.false)
+    c.none.ensures ∙ sym (check-none _ _ (is-true fits-geometry.ensures if1.false)
     (so c.consistent.ensures c.if-consistent.true))
 
 pub fault_of-requires : goal.fault_of-requires

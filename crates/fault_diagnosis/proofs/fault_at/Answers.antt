@@ -32,72 +32,72 @@ returns-then-run_fault c = grind (arith, common_steps)
 pub returns-then-gat_fault : goal.returns-then-gat_fault
 unfolding fault_at first
 returns-then-gat_fault c = let a = c.args in
-    let run' : run_fault a.g a.image.now a.s ≡ false = elim c.else-runs-s.branch [
+    let run' : run_fault a.disk.now.g a.disk.now.image.now a.s ≡ false = elim c.else-runs-s.branch [
       | else-runs-s-via-then-runs-s+else-run_fault w ↦ not_so w.run_fault.ensures w.if-run_fault.false
-      | else-runs-s-via-else-runs-s w ↦ c.requires.3.run a.s (omega arith) c.requires.1
+      | else-runs-s-via-else-runs-s w ↦ c.requires.2.run a.s (omega arith) c.requires.0
     ] in
     grind (arith, common_steps)
 
 pub returns-then-shared_fault : goal.returns-then-shared_fault
 unfolding fault_at first
 returns-then-shared_fault c = let a = c.args in
-    let run' : run_fault a.g a.image.now a.s ≡ false = elim c.else-runs-s.branch [
+    let run' : run_fault a.disk.now.g a.disk.now.image.now a.s ≡ false = elim c.else-runs-s.branch [
       | else-runs-s-via-then-runs-s+else-run_fault w ↦ not_so w.run_fault.ensures w.if-run_fault.false
-      | else-runs-s-via-else-runs-s w ↦ c.requires.3.run a.s (omega arith) c.requires.1
+      | else-runs-s-via-else-runs-s w ↦ c.requires.2.run a.s (omega arith) c.requires.0
     ] in
-    let gat' : gat_fault a.g a.image.now a.s ≡ false = elim c.else-runs-s-2.branch [
+    let gat' : gat_fault a.disk.now.g a.disk.now.image.now a.s ≡ false = elim c.else-runs-s-2.branch [
       | else-runs-s-2-via-then-runs-s-2+else-gat_fault w ↦ not_so w.gat_fault.ensures w.if-gat_fault.false
-      | else-runs-s-2-via-else-runs-s-2 w ↦ c.requires.3.gat a.s (omega arith) c.requires.1
+      | else-runs-s-2-via-else-runs-s-2 w ↦ c.requires.2.gat a.s (omega arith) c.requires.0
     ] in
     grind (arith, common_steps)
 
 pub returns-then-size_fault : goal.returns-then-size_fault
 unfolding fault_at first
 returns-then-size_fault c = let a = c.args in
-    let run' : run_fault a.g a.image.now a.s ≡ false = elim c.else-runs-s.branch [
+    let run' : run_fault a.disk.now.g a.disk.now.image.now a.s ≡ false = elim c.else-runs-s.branch [
       | else-runs-s-via-then-runs-s+else-run_fault w ↦ not_so w.run_fault.ensures w.if-run_fault.false
-      | else-runs-s-via-else-runs-s w ↦ c.requires.3.run a.s (omega arith) c.requires.1
+      | else-runs-s-via-else-runs-s w ↦ c.requires.2.run a.s (omega arith) c.requires.0
     ] in
-    let gat' : gat_fault a.g a.image.now a.s ≡ false = elim c.else-runs-s-2.branch [
+    let gat' : gat_fault a.disk.now.g a.disk.now.image.now a.s ≡ false = elim c.else-runs-s-2.branch [
       | else-runs-s-2-via-then-runs-s-2+else-gat_fault w ↦ not_so w.gat_fault.ensures w.if-gat_fault.false
-      | else-runs-s-2-via-else-runs-s-2 w ↦ c.requires.3.gat a.s (omega arith) c.requires.1
+      | else-runs-s-2-via-else-runs-s-2 w ↦ c.requires.2.gat a.s (omega arith) c.requires.0
     ] in
-    let shared' : shared_fault a.g a.image.now a.s ≡ false = elim c.else-runs-s-3.branch [
+    let shared' : shared_fault a.disk.now.g a.disk.now.image.now a.s ≡ false = elim c.else-runs-s-3.branch [
       | else-runs-s-3-via-then-runs-s-3+else-shared_fault w ↦ not_so w.shared_fault.ensures w.if-shared_fault.false
-      | else-runs-s-3-via-else-runs-s-3 w ↦ c.requires.3.shared a.s (omega arith) c.requires.1
+      | else-runs-s-3-via-else-runs-s-3 w ↦ c.requires.2.shared a.s (omega arith) c.requires.0
     ] in
     grind (arith, common_steps)
 
 pub returns-then-directory_fault : goal.returns-then-directory_fault
 unfolding fault_at first
 returns-then-directory_fault c = let a = c.args in
-    let run' : run_fault a.g a.image.now a.s ≡ false = elim c.else-runs-s.branch [
+    let run' : run_fault a.disk.now.g a.disk.now.image.now a.s ≡ false = elim c.else-runs-s.branch [
       | else-runs-s-via-then-runs-s+else-run_fault w ↦ not_so w.run_fault.ensures w.if-run_fault.false
-      | else-runs-s-via-else-runs-s w ↦ c.requires.3.run a.s (omega arith) c.requires.1
+      | else-runs-s-via-else-runs-s w ↦ c.requires.2.run a.s (omega arith) c.requires.0
     ] in
-    let gat' : gat_fault a.g a.image.now a.s ≡ false = elim c.else-runs-s-2.branch [
+    let gat' : gat_fault a.disk.now.g a.disk.now.image.now a.s ≡ false = elim c.else-runs-s-2.branch [
       | else-runs-s-2-via-then-runs-s-2+else-gat_fault w ↦ not_so w.gat_fault.ensures w.if-gat_fault.false
-      | else-runs-s-2-via-else-runs-s-2 w ↦ c.requires.3.gat a.s (omega arith) c.requires.1
+      | else-runs-s-2-via-else-runs-s-2 w ↦ c.requires.2.gat a.s (omega arith) c.requires.0
     ] in
-    let shared' : shared_fault a.g a.image.now a.s ≡ false = elim c.else-runs-s-3.branch [
+    let shared' : shared_fault a.disk.now.g a.disk.now.image.now a.s ≡ false = elim c.else-runs-s-3.branch [
       | else-runs-s-3-via-then-runs-s-3+else-shared_fault w ↦ not_so w.shared_fault.ensures w.if-shared_fault.false
-      | else-runs-s-3-via-else-runs-s-3 w ↦ c.requires.3.shared a.s (omega arith) c.requires.1
+      | else-runs-s-3-via-else-runs-s-3 w ↦ c.requires.2.shared a.s (omega arith) c.requires.0
     ] in
     grind (arith, common_steps)
 
 pub returns : goal.returns
 unfolding fault_at first
 returns c = let a = c.args in
-    let run' : run_fault a.g a.image.now a.s ≡ false = elim c.else-runs-s.branch [
+    let run' : run_fault a.disk.now.g a.disk.now.image.now a.s ≡ false = elim c.else-runs-s.branch [
       | else-runs-s-via-then-runs-s+else-run_fault w ↦ not_so w.run_fault.ensures w.if-run_fault.false
-      | else-runs-s-via-else-runs-s w ↦ c.requires.3.run a.s (omega arith) c.requires.1
+      | else-runs-s-via-else-runs-s w ↦ c.requires.2.run a.s (omega arith) c.requires.0
     ] in
-    let gat' : gat_fault a.g a.image.now a.s ≡ false = elim c.else-runs-s-2.branch [
+    let gat' : gat_fault a.disk.now.g a.disk.now.image.now a.s ≡ false = elim c.else-runs-s-2.branch [
       | else-runs-s-2-via-then-runs-s-2+else-gat_fault w ↦ not_so w.gat_fault.ensures w.if-gat_fault.false
-      | else-runs-s-2-via-else-runs-s-2 w ↦ c.requires.3.gat a.s (omega arith) c.requires.1
+      | else-runs-s-2-via-else-runs-s-2 w ↦ c.requires.2.gat a.s (omega arith) c.requires.0
     ] in
-    let shared' : shared_fault a.g a.image.now a.s ≡ false = elim c.else-runs-s-3.branch [
+    let shared' : shared_fault a.disk.now.g a.disk.now.image.now a.s ≡ false = elim c.else-runs-s-3.branch [
       | else-runs-s-3-via-then-runs-s-3+else-shared_fault w ↦ not_so w.shared_fault.ensures w.if-shared_fault.false
-      | else-runs-s-3-via-else-runs-s-3 w ↦ c.requires.3.shared a.s (omega arith) c.requires.1
+      | else-runs-s-3-via-else-runs-s-3 w ↦ c.requires.2.shared a.s (omega arith) c.requires.0
     ] in
     grind (arith, common_steps)

@@ -8,7 +8,7 @@ pub returns-then-not-is_slot : goal.returns-then-not-is_slot
 returns-then-not-is_slot c = none_in _ _ _ (is-false c.is_slot.ensures c.if-not-is_slot.true)
 
 pub fault_at-requires : goal.fault_at-requires
-fault_at-requires c = let p = c.requires in (p.0, slot-of _ _ _ (is-true c.is_slot.ensures c.if-not-is_slot.false), p.1, p.2, p.3, p.4)
+fault_at-requires c = let p = c.requires in (slot-of _ _ _ (is-true c.is_slot.ensures c.if-not-is_slot.false), p.0, p.1, p.2, p.3)
 
 pub returns : goal.returns
 returns c = c.fault_at.ensures ∙ one_in _ _ _ (is-true c.is_slot.ensures c.if-not-is_slot.false)

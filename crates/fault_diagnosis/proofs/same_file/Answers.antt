@@ -12,25 +12,25 @@ use Rattle.std.proofs.Common.{take, drop, ℕ}
 use Rattle.fault_diagnosis.proofs.same_file.Goals as goal
 
 pub primary-requires : goal.primary-requires
-primary-requires c = (c.requires.0, slot-of _ _ _ (is-true c.is_slot.ensures c.if-is_slot.true))
+primary-requires c = slot-of _ _ _ (is-true c.is_slot.ensures c.if-is_slot.true)
 
 pub name_at-requires : goal.name_at-requires
-name_at-requires c = let a = c.args in let t : is_slot a.g a.image.now a.q ≡ true = grind (arith, common_steps) in
-    let w = entry-fits a.g a.image.now a.q c.requires.0 (slot-of _ _ _ t) in omega arith
+name_at-requires c = let a = c.args in let t : is_slot a.disk.now.g a.disk.now.image.now a.q ≡ true = grind (arith, common_steps) in
+    let w = entry-fits a.disk.now.g a.disk.now.image.now a.q c.args.disk.now.room (slot-of _ _ _ t) in omega arith
 
 pub same_name-requires : goal.same_name-requires
-same_name-requires c = let a = c.args in let t : is_slot a.g a.image.now a.q ≡ true = grind (arith, common_steps) in
-    let w = entry-fits a.g a.image.now a.q c.requires.0 (slot-of _ _ _ t) in let e = c.name_at.ensures in (omega arith, c.requires.1)
+same_name-requires c = let a = c.args in let t : is_slot a.disk.now.g a.disk.now.image.now a.q ≡ true = grind (arith, common_steps) in
+    let w = entry-fits a.disk.now.g a.disk.now.image.now a.q c.args.disk.now.room (slot-of _ _ _ t) in let e = c.name_at.ensures in (omega arith, c.requires)
 
 pub returns-then-primary : goal.returns-then-primary
 unfolding same_file all any
-returns-then-primary c = let a = c.args in let t : is_slot a.g a.image.now a.q ≡ true = grind (arith, common_steps) in
-    let w = entry-fits a.g a.image.now a.q c.requires.0 (slot-of _ _ _ t) in grind (
+returns-then-primary c = let a = c.args in let t : is_slot a.disk.now.g a.disk.now.image.now a.q ≡ true = grind (arith, common_steps) in
+    let w = entry-fits a.disk.now.g a.disk.now.image.now a.q c.args.disk.now.room (slot-of _ _ _ t) in grind (
       arith,
       common_steps,
-      name-at a.g a.image.now a.name.now a.q (omega arith),
+      name-at a.disk.now.g a.disk.now.image.now a.name.now a.q (omega arith),
       ap
-          (λ (x : ℕ). same (take 11 (drop x a.image.now)) a.name.now) c.name_at.ensures,
+          (λ (x : ℕ). same (take 11 (drop x a.disk.now.image.now)) a.name.now) c.name_at.ensures,
     )
 
 pub returns-else-primary : goal.returns-else-primary

@@ -7,20 +7,16 @@ use Rattle.fault_diagnosis.proofs.AllSlots.{all_slots, slot-found, slot-clear, s
 use Rattle.fault_diagnosis.proofs.slots_fault.Goals as goal
 
 pub note_files-requires : goal.note_files-requires
-note_files-requires c = let p = c.requires in (p, walking_start _ _)
+note_files-requires c = walking_start _ _
 
 pub note_goods-requires : goal.note_goods-requires
-note_goods-requires c = let p = c.requires in (p, c.note_files.ensures, leading-start _ _)
+note_goods-requires c = (c.note_files.ensures, leading-start _ _)
 
 pub loop-s-init : goal.loop-s-init
-loop-s-init c = let a = c.args in all_slots a.g a.image.now (after_slots a.g a.image.now)
-
-pub fault_in-requires : goal.fault_in-requires
-fault_in-requires c = let note-goods = c.note_goods in let note-files = c.note_files in let runs-clear = c.runs_clear-runs in
-    let names-clear = c.names_clear-names in let p = c.requires in (p, names-clear.ensures, runs-clear.ensures, note-files.ensures, note-goods.ensures)
+loop-s-init c = let d = c.args.disk.now in all_slots d.g d.image.now (after_slots d.g d.image.now)
 
 pub returns-in-Some : goal.returns-in-Some
-returns-in-Some c = slot-found _ _ _ _ _ c.loop-s.invariant (c.number.ensures ∙ c.in-Some.ensures) c.loop-s-test.true
+returns-in-Some c = c.placed.ensures ∙ slot-found _ _ _ _ _ c.loop-s.invariant (c.number.ensures ∙ c.in-Some.ensures) c.loop-s-test.true
     (λ z. let k = some-number c.in-Some.kind in let e = c.number.ensures in omega (arith, z, k, e))
 
 pub loop-s-preserved : goal.loop-s-preserved

@@ -7,5 +7,5 @@ use Rattle.fault_diagnosis.specs.Told.{after_slots}
 use Rattle.fault_diagnosis.proofs.slots_fault.Given as goal
 
 abbrev pub invariant-loop-s : goal.invariant-loop-s
-invariant-loop-s l = lowest l.g l.image (after_slots l.g l.image) (slots l.g l.image) ≡ lowest l.g l.image (after_slots l.g l.image)
-    (keep (is_slot l.g l.image) (count l.s (256 - l.s)))
+invariant-loop-s l = let g = l.disk.g in let d = l.disk.image.now in
+    lowest g d (after_slots g d) (slots g d) ≡ lowest g d (after_slots g d) (keep (is_slot g d) (count l.s (256 - l.s)))

@@ -8,16 +8,10 @@ use mathlib.Core.Path.{sym}
 use Rattle.fault_kinds.proofs.count_from.Goals as goal
 
 pub loop-init : goal.loop-init
-loop-init c = (let e : c.args.n - 0 ≡ c.args.n = omega arith in rw e (sym (zero-add _)), c.requires.1, let h = c.requires.2 in omega arith)
-
-pub entry_length-c-requires : goal.entry_length-c-requires
-entry_length-c-requires c = (c.requires.0, c.loop.invariant.1)
+loop-init c = (let e : c.args.n - 0 ≡ c.args.n = omega arith in rw e (sym (zero-add _)), c.requires.0, let h = c.requires.1 in omega arith)
 
 pub overflow_add-c : goal.overflow_add-c
 overflow_add-c c = let q = c.entry_length-c.ensures.small in let z = c.loop.invariant.2 in omega arith
-
-pub hands_on-requires : goal.hands_on-requires
-hands_on-requires c = let p = c.requires in (p.0, c.loop.invariant.1)
 
 pub returns-then-not-hands_on : goal.returns-then-not-hands_on
 returns-then-not-hands_on c = record {
@@ -25,9 +19,6 @@ returns-then-not-hands_on c = record {
       c.entry_length-c.ensures.is (is-false c.hands_on.ensures c.if-not-hands_on.true);
   small = let q = c.entry_length-c.ensures.small in let z = c.loop.invariant.2 in omega arith;
 }
-
-pub field-s-requires : goal.field-s-requires
-field-s-requires c = (c.requires.0, c.loop.invariant.1, omega arith)
 
 pub loop-preserved : goal.loop-preserved
 loop-preserved c = (

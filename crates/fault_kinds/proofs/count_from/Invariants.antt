@@ -6,5 +6,5 @@ use mathlib.Core.Path.{◌≡◌}
 use Rattle.fault_kinds.proofs.count_from.Given as goal
 
 abbrev pub invariant-loop : goal.invariant-loop
-invariant-loop l = (size l.g l.image (reach l.g l.image l.n l.p) ≡ l.c + size l.g l.image (reach l.g l.image (l.n - l.counter) l.s)) × Slot l.g l.image l.s ×
-    (l.c + 128 * (l.n - l.counter) ≤ 32768)
+invariant-loop l = let g = l.disk.g in let d = l.disk.image.now in
+    (size g d (reach g d l.n l.p) ≡ l.c + size g d (reach g d (l.n - l.counter) l.s)) × Slot g d l.s × (l.c + 128 * (l.n - l.counter) ≤ 32768)

@@ -9,14 +9,14 @@ use Rattle.fault_kinds.proofs.directory_fault.Goals as goal
 
 pub returns-then-not-flag : goal.returns-then-not-flag
 unfolding directory_fault all any
-returns-then-not-flag c = let a = c.args in grind (
+returns-then-not-flag c = let d = c.args.disk.now in grind (
   arith,
   common_steps,
-  directory-by a.g a.image.now a.s {b = a.g.start / c.granule_sectors.result} {m = c.directory_granules-m.result} c.requires.0
+  directory-by d.g d.image.now c.args.s {b = d.g.start / c.granule_sectors.result} {m = c.directory_granules-m.result} d.room
       (rw (← c.granule_sectors.ensures.is) refl) c.directory_granules-m.ensures.is,
-  ap (system a.g a.image.now) c.file_of-p.ensures.0,
+  ap (system d.g d.image.now) c.file_of-p.ensures.0,
 )
 
 pub returns-else-not-flag : goal.returns-else-not-flag
 unfolding directory_fault all any
-returns-else-not-flag c = let a = c.args in grind (arith, common_steps, ap (system a.g a.image.now) c.file_of-p.ensures.0)
+returns-else-not-flag c = let d = c.args.disk.now in grind (arith, common_steps, ap (system d.g d.image.now) c.file_of-p.ensures.0)

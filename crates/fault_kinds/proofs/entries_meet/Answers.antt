@@ -8,5 +8,5 @@ use Rattle.fault_kinds.proofs.entries_meet.Goals as goal
 pub returns : goal.returns
 unfolding entries_meet
 returns c = let a = c.args in
-    some-range (run_meets a.g a.image.now a.s a.t) c.any.ensures.ran (omega (arith, c.runs-n.ensures.is)) (λ x q k. search (rules, tests))
+    some-range (run_meets a.disk.now.g a.disk.now.image.now a.s a.t) c.any.ensures.ran (omega (arith, c.runs-n.ensures.is)) (λ x q k. search (rules, tests))
     (λ x q k. search (rules, tests))

@@ -6,5 +6,5 @@ use Rattle.fault_kinds.proofs.entry_in.Goals as goal
 
 pub returns : goal.returns
 returns c = let a = c.args in
-    some-range (run_in a.g a.image.now a.b a.m a.s) c.any.ensures.ran (omega (arith, c.runs-n.ensures.is)) (λ x q k. search (rules, tests))
+    some-range (run_in a.disk.now.g a.disk.now.image.now a.b a.m a.s) c.any.ensures.ran (omega (arith, c.runs-n.ensures.is)) (λ x q k. search (rules, tests))
     (λ x q k. search (rules, tests))

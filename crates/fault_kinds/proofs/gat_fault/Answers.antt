@@ -7,7 +7,7 @@ use Rattle.fault_kinds.proofs.Passes.{runs-lie}
 use Rattle.fault_kinds.proofs.gat_fault.Goals as goal
 
 pub gat_holds-requires : goal.gat_holds-requires
-gat_holds-requires c = (c.requires.0, c.requires.1, runs-lie _ _ _ (is-true c.flag.ensures c.if-flag.true) c.requires.2)
+gat_holds-requires c = (c.requires.0, runs-lie _ _ _ (is-true c.flag.ensures c.if-flag.true) c.requires.1)
 
 pub returns-then-flag : goal.returns-then-flag
 unfolding gat_fault all any

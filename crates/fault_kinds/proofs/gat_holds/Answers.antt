@@ -8,20 +8,20 @@ use mathlib.Core.Path.{ap}
 use Rattle.fault_kinds.proofs.gat_holds.Goals as goal
 
 pub loop-k-init : goal.loop-k-init
-loop-k-init c = let a = c.args in ap (every (taken a.g a.image.now)) (named-all a.g a.image.now a.s c.runs-n.ensures.is)
+loop-k-init c = let a = c.args in ap (every (taken a.disk.now.g a.disk.now.image.now)) (named-all a.disk.now.g a.disk.now.image.now a.s c.runs-n.ensures.is)
 
 pub run_start-a-requires : goal.run_start-a-requires
-run_start-a-requires c = let h = c.runs-n.ensures.small in (c.requires.0, c.requires.1, omega arith)
+run_start-a-requires c = let h = c.runs-n.ensures.small in (c.requires.0, omega arith)
 
 pub run_length-m-requires : goal.run_length-m-requires
-run_length-m-requires c = let h = c.runs-n.ensures.small in (c.requires.0, c.requires.1, omega arith)
+run_length-m-requires c = let h = c.runs-n.ensures.small in (c.requires.0, omega arith)
 
 pub all_taken-requires : goal.all_taken-requires
 all_taken-requires c = let e = c.run_start-a.ensures.is in let f = c.run_length-m.ensures.is in let q = c.runs-n.ensures.is in
-    let z = run_fits c.args.g c.args.image.now
+    let z = run_fits c.args.disk.now.g c.args.disk.now.image.now
     c.args.s c.loop-k.k
-    c.requires.2 (omega arith) in
-    (c.requires.0, omega arith)
+    c.requires.1 (omega arith) in
+    (omega arith)
 
 pub returns-then-not-all_taken : goal.returns-then-not-all_taken
 returns-then-not-all_taken c = let run-start = c.run_start-a in let loop-test = c.loop-k-test in let l = c.loop-k in gat-no _ _ _ _ _ l.invariant loop-test.true

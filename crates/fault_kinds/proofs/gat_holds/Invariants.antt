@@ -7,4 +7,5 @@ use mathlib.Core.Path.{◌≡◌}
 use Rattle.fault_kinds.proofs.gat_holds.Given as goal
 
 abbrev pub invariant-loop-k : goal.invariant-loop-k
-invariant-loop-k l = every (taken l.g l.image) (entry_granules l.g l.image l.s) ≡ every (taken l.g l.image) (named l.g l.image l.s (count l.k (l.n - l.k)))
+invariant-loop-k l = let g = l.disk.g in let d = l.disk.image.now in
+    every (taken g d) (entry_granules g d l.s) ≡ every (taken g d) (named g d l.s (count l.k (l.n - l.k)))

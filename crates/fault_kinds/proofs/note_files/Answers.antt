@@ -2,10 +2,7 @@ use Rattle.fault_kinds.proofs.Noting.{walking-end}
 use Rattle.fault_kinds.proofs.note_files.Goals as goal
 
 pub loop-p-init : goal.loop-p-init
-loop-p-init c = c.requires.1
-
-pub note_file-requires : goal.note_file-requires
-note_file-requires c = let slots = c.slots-n in let p = c.requires in (p.0, c.loop-p-test.true, slots.ensures.is, c.loop-p.invariant)
+loop-p-init c = c.requires
 
 pub loop-p-preserved : goal.loop-p-preserved
 loop-p-preserved c = c.note_file.ensures

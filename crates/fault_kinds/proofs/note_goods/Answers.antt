@@ -2,10 +2,7 @@ use Rattle.fault_kinds.proofs.Noting.{leading_end}
 use Rattle.fault_kinds.proofs.note_goods.Goals as goal
 
 pub loop-b-init : goal.loop-b-init
-loop-b-init c = c.requires.2
-
-pub tell_from-requires : goal.tell_from-requires
-tell_from-requires c = let p = c.requires in (p.0, p.1, c.loop-b-test.true, c.loop-b.invariant)
+loop-b-init c = c.requires.1
 
 pub loop-b-preserved : goal.loop-b-preserved
 loop-b-preserved c = c.tell_from.ensures

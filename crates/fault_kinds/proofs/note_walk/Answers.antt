@@ -8,32 +8,21 @@ use mathlib.Core.Path.{refl}
 use Rattle.fault_kinds.proofs.note_walk.Goals as goal
 
 pub loop-init : goal.loop-init
-loop-init c = (let e : c.args.n - 0 ≡ c.args.n = omega arith in rw e refl, c.requires.1)
+loop-init c = (let e : c.args.n - 0 ≡ c.args.n = omega arith in rw e refl, c.requires)
 
 pub note-requires : goal.note-requires
-note-requires c = let a = c.loop.invariant.1.low in let b = c.requires.1.held in let e = c.requires.0.thirty in let l = c.requires.1.low in
+note-requires c = let a = c.loop.invariant.1.low in let b = c.requires.held in let e = c.args.disk.now.room.thirty in let l = c.requires.low in
     (omega arith, omega arith)
 
-pub hands_on-requires : goal.hands_on-requires
-hands_on-requires c = let l = c.loop in let p = c.requires in (p.0, l.invariant.1)
-
 pub returns-then-not-hands_on : goal.returns-then-not-hands_on
-returns-then-not-hands_on c = let a = c.args in noting-stop a.g a.image.now a.n a.p (c.args.n - c.loop.counter)
+returns-then-not-hands_on c = let a = c.args in noting-stop a.disk.now.g a.disk.now.image.now a.n a.p (c.args.n - c.loop.counter)
     c.loop.s (a.p + 1) a.files.now c.loop.files
     c.loop.invariant.0 c.note.ensures (omega arith)
     (is-false c.hands_on.ensures c.if-not-hands_on.true)
 
-pub field-s-requires : goal.field-s-requires
-field-s-requires c = (
-  c.requires.0,
-  c.loop.invariant.1,
-  omega
-      arith,
-)
-
 pub loop-preserved : goal.loop-preserved
 loop-preserved c = let a = c.args in (
-  rw (← one-less c.args.n c.loop.counter) (noting-on a.g a.image.now a.n a.p (c.args.n - c.loop.counter)
+  rw (← one-less c.args.n c.loop.counter) (noting-on a.disk.now.g a.disk.now.image.now a.n a.p (c.args.n - c.loop.counter)
       c.loop.s (a.p + 1) a.files.now
       c.loop.files
       c.loop.invariant.0 c.note.ensures
@@ -43,5 +32,5 @@ loop-preserved c = let a = c.args in (
 )
 
 pub returns : goal.returns
-returns c = let a = c.args in noting-none a.g a.image.now a.n a.p (c.args.n - c.loop.counter) c.loop.s (a.p + 1) a.files.now c.loop.files
+returns c = let a = c.args in noting-none a.disk.now.g a.disk.now.image.now a.n a.p (c.args.n - c.loop.counter) c.loop.s (a.p + 1) a.files.now c.loop.files
     c.loop.invariant.0 (omega arith)

@@ -6,5 +6,5 @@ use mathlib.Core.Path.{◌≡◌}
 use Rattle.fault_kinds.proofs.note_walk.Given as goal
 
 abbrev pub invariant-loop : goal.invariant-loop
-invariant-loop l = (notes l.initial.files (l.p + 1) (reach l.g l.image l.n l.p) ≡ notes l.files (l.p + 1) (reach l.g l.image (l.n - l.counter) l.s)) × Slot
-    l.g l.image l.s
+invariant-loop l = let g = l.disk.g in let d = l.disk.image.now in
+    (notes l.initial.files (l.p + 1) (reach g d l.n l.p) ≡ notes l.files (l.p + 1) (reach g d (l.n - l.counter) l.s)) × Slot g d l.s

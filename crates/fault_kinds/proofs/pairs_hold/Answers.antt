@@ -8,4 +8,5 @@ use Rattle.fault_kinds.proofs.pairs_hold.Goals as goal
 pub returns : goal.returns
 unfolding pairs_hold
 returns c = let a = c.args in
-    every-range (pair_holds a.g a.image.now a.s) {n = 4} c.all.ensures.ran (omega arith) (λ x q k. search (rules, tests)) (λ x q k. search (rules, tests))
+    every-range (pair_holds a.disk.now.g a.disk.now.image.now a.s) {n = 4} c.all.ensures.ran (omega arith) (λ x q k. search (rules, tests))
+    (λ x q k. search (rules, tests))

@@ -3,10 +3,10 @@ use Rattle.std.proofs.lemmas.Grind.{common_steps}
 use Rattle.meaning.specs.Lists.{all, any}
 use Rattle.fault_kinds.proofs.run_holds.Goals as goal
 
-pub returns-then-field-g : goal.returns-then-field-g
+pub returns-then-field-disk : goal.returns-then-field-disk
 unfolding all any
-returns-then-field-g c = grind (arith, common_steps)
+returns-then-field-disk c = grind (arith, common_steps)
 
-pub returns-else-field-g : goal.returns-else-field-g
+pub returns-else-field-disk : goal.returns-else-field-disk
 unfolding all any
-returns-else-field-g c = grind (arith, common_steps)
+returns-else-field-disk c = grind (arith, common_steps)

@@ -8,5 +8,5 @@ use Rattle.fault_kinds.proofs.run_meets.Goals as goal
 pub returns : goal.returns
 unfolding run_meets
 returns c = let a = c.args in
-    some-range (runs_meet a.g a.image.now a.s a.k a.t) c.any.ensures.ran (omega (arith, c.runs-n.ensures.is)) (λ x q k. search (rules, tests))
+    some-range (runs_meet a.disk.now.g a.disk.now.image.now a.s a.k a.t) c.any.ensures.ran (omega (arith, c.runs-n.ensures.is)) (λ x q k. search (rules, tests))
     (λ x q k. search (rules, tests))

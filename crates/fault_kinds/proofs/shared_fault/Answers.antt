@@ -8,12 +8,15 @@ use Rattle.fault_kinds.proofs.shared_fault.Goals as goal
 
 pub returns-then-twice : goal.returns-then-twice
 unfolding shared_fault all any
-returns-then-twice c = let a = c.args in grind (arith, common_steps, twice-is a.g a.image.now a.s, below-is a.g a.image.now a.s c.requires.1.low)
+returns-then-twice c = let d = c.args.disk.now in let s = c.args.s in
+    grind (arith, common_steps, twice-is d.g d.image.now s, below-is d.g d.image.now s c.requires.low)
 
 pub returns-else-twice : goal.returns-else-twice
 unfolding shared_fault all any
-returns-else-twice c = let a = c.args in grind (arith, common_steps, twice-is a.g a.image.now a.s, below-is a.g a.image.now a.s c.requires.1.low)
+returns-else-twice c = let d = c.args.disk.now in let s = c.args.s in
+    grind (arith, common_steps, twice-is d.g d.image.now s, below-is d.g d.image.now s c.requires.low)
 
 pub returns-else-flag : goal.returns-else-flag
 unfolding shared_fault all any
-returns-else-flag c = let a = c.args in grind (arith, common_steps, twice-is a.g a.image.now a.s, below-is a.g a.image.now a.s c.requires.1.low)
+returns-else-flag c = let d = c.args.disk.now in let s = c.args.s in
+    grind (arith, common_steps, twice-is d.g d.image.now s, below-is d.g d.image.now s c.requires.low)

@@ -11,8 +11,7 @@ pub size_holds-requires : goal.size_holds-requires
 unfolding owned
 size_holds-requires c = (
   c.requires.0,
-  c.requires.1,
   c.count_from-c.ensures.small,
   c.count_from-c.ensures.is ∙ ap
-      (λ (l : List ℕ). length (each (entry_granules c.args.g c.args.image.now) l)) c.requires.3,
+      (λ (l : List ℕ). length (each (entry_granules c.args.disk.now.g c.args.disk.now.image.now) l)) c.requires.2,
 )

@@ -5,4 +5,4 @@ use Rattle.fault_kinds.proofs.slots.Goals as goal
 
 pub returns : goal.returns
 returns c = let a = c.args in let h = c.slots.ensures.is in
-    record { is = h ∙ sym (slots_length a.g a.image.now (omega arith) (omega arith)); small = omega arith }
+    record { is = h ∙ sym (slots_length a.disk.now.g a.disk.now.image.now (omega arith) (omega arith)); small = omega arith }

@@ -7,29 +7,16 @@ use mathlib.Core.Path.{refl}
 use Rattle.fault_kinds.proofs.whole_from.Goals as goal
 
 pub loop-init : goal.loop-init
-loop-init c = (let e : c.args.n - 0 ≡ c.args.n = omega arith in rw e refl, c.requires.1)
-
-pub chain_fault-requires : goal.chain_fault-requires
-chain_fault-requires c = let p = c.requires in (p.0, c.loop.invariant.1, p.2)
+loop-init c = (let e : c.args.n - 0 ≡ c.args.n = omega arith in rw e refl, c.requires.0)
 
 pub returns-then-chain_fault : goal.returns-then-chain_fault
 returns-then-chain_fault c = whole-no _ _ _ _ _ _ c.loop.invariant.0 (omega arith)
     (so c.chain_fault.ensures c.if-chain_fault.true)
 
-pub hands_on-requires : goal.hands_on-requires
-hands_on-requires c = let l = c.loop in let p = c.requires in (p.0, l.invariant.1)
-
 pub returns-then-not-hands_on : goal.returns-then-not-hands_on
 returns-then-not-hands_on c = let chain-fault = c.chain_fault in let l = c.loop in
     whole-end _ _ _ _ _ _ l.invariant.0 (omega arith) (not_so chain-fault.ensures c.if-chain_fault.false)
     (is-false c.hands_on.ensures c.if-not-hands_on.true)
-
-pub field-s-requires : goal.field-s-requires
-field-s-requires c = (
-  c.requires.0,
-  c.loop.invariant.1,
-  omega arith,
-)
 
 pub loop-preserved : goal.loop-preserved
 loop-preserved c = let if1 = c.if-chain_fault in let chain-fault = c.chain_fault in let l = c.loop in (

@@ -7,5 +7,5 @@ use mathlib.Core.Path.{◌≡◌}
 use Rattle.fault_kinds.proofs.whole_from.Given as goal
 
 abbrev pub invariant-loop : goal.invariant-loop
-invariant-loop l = (every (firm l.g l.image) (reach l.g l.image l.n l.p) ≡ every (firm l.g l.image) (reach l.g l.image (l.n - l.counter) l.s)) × Slot
-    l.g l.image l.s
+invariant-loop l = let g = l.disk.g in let d = l.disk.image.now in
+    (every (firm g d) (reach g d l.n l.p) ≡ every (firm g d) (reach g d (l.n - l.counter) l.s)) × Slot g d l.s

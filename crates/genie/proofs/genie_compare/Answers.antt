@@ -15,14 +15,14 @@ returns-then-name-lt-NAME_BYTES c =
     let the-geometry2 = c.geometry-h in
     let the-if1 = c.if-name-lt-NAME_BYTES in
     let the-short-of-two = c.short_of_two-c in
-    let the-wide = c.wide in
+    let the-from = c.from in
     let the-check = c.check in
     let the-check2 = c.check-then-name-lt-NAME_BYTES in
     at-disk (λ (g : Geometry). exported_compare g a.first.now
     (geometry a.blocks2 a.units2 a.start2 a.open_code2 a.system_disk2 a.granule_sectors2) a.second.now a.number a.name.now)
     the-geometry.ensures
     (at-disk (λ (h : Geometry). exported_compare the-geometry.result a.first.now h a.second.now a.number a.name.now) the-geometry2.ensures
-    (rw (lt-ltb _ _ the-if1.true) (short-told a.name.now the-short-of-two.result the-wide.ensures.is
+    (rw (lt-ltb _ _ the-if1.true) (short-told a.name.now the-short-of-two.result the-from.ensures
     (the-short-of-two.ensures ∙ (λ i. short_of_two (the-check.ensures i) (the-check2.ensures i))))))
 
 pub returns-then-x-eq0 : goal.returns-then-x-eq0
@@ -32,15 +32,15 @@ returns-then-x-eq0 c =
     let the-geometry2 = c.geometry-h in
     let the-if1 = c.if-name-lt-NAME_BYTES in
     let the-compare = c.compare-x in
-    let the-wide2 = c.wide-2 in
-    let the-wide3 = c.wide-3 in
+    let the-from2 = c.from-2 in
+    let the-from3 = c.from-3 in
     let the-flags-of = c.flags_of in
     let the-if2 = c.if-x-eq0 in
     at-disk (λ (g : Geometry). exported_compare g a.first.now
     (geometry a.blocks2 a.units2 a.start2 a.open_code2 a.system_disk2 a.granule_sectors2) a.second.now a.number a.name.now)
     the-geometry.ensures
     (at-disk (λ (h : Geometry). exported_compare the-geometry.result a.first.now h a.second.now a.number a.name.now) the-geometry2.ensures
-    (rw (le-ltb _ _ the-if1.false) (none_told a.name.now the-compare.result the-wide2.ensures.is the-wide3.ensures.is
+    (rw (le-ltb _ _ the-if1.false) (none_told a.name.now the-compare.result the-from2.ensures the-from3.ensures
     the-flags-of.ensures the-compare.ensures the-if2.true)))
 
 pub returns : goal.returns
@@ -50,8 +50,8 @@ returns c =
     let the-geometry2 = c.geometry-h in
     let the-if1 = c.if-name-lt-NAME_BYTES in
     let the-compare = c.compare-x in
-    let the-wide2 = c.wide-2 in
-    let the-wide3 = c.wide-3 in
+    let the-from2 = c.from-2 in
+    let the-from3 = c.from-3 in
     let the-flags-of = c.flags_of in
     let the-if2 = c.if-x-eq0 in
     let the-put-name = c.put_name in
@@ -59,5 +59,5 @@ returns c =
     (geometry a.blocks2 a.units2 a.start2 a.open_code2 a.system_disk2 a.granule_sectors2) a.second.now a.number a.name.now)
     the-geometry.ensures
     (at-disk (λ (h : Geometry). exported_compare the-geometry.result a.first.now h a.second.now a.number a.name.now) the-geometry2.ensures
-    (rw (le-ltb _ _ the-if1.false) (one_told a.name.now the-compare.result the-wide2.ensures.is the-wide3.ensures.is
+    (rw (le-ltb _ _ the-if1.false) (one_told a.name.now the-compare.result the-from2.ensures the-from3.ensures
     the-flags-of.ensures the-compare.ensures the-if2.false the-put-name.ensures)))

@@ -9,7 +9,7 @@ pub returns-then-total-after : goal.returns-then-total-after
 returns-then-total-after c = none-past _ _ _ _ _ (let t = c.granules-total.ensures.0 in omega arith)
 
 pub clear_from-requires : goal.clear_from-requires
-clear_from-requires c = (c.requires, let t = c.granules-total.ensures.0 in omega arith)
+clear_from-requires c = let t = c.granules-total.ensures.0 in omega arith
 
 pub returns : goal.returns
 returns c = let t = c.granules-total.ensures.0 in

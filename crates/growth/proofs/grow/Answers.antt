@@ -14,6 +14,9 @@ use Rattle.meaning.specs.Free.{free_granules}
 use Rattle.meaning.specs.Growth.{fails, grow_by, disk_or, lacking}
 use Rattle.growth.proofs.grow.Goals as goal
 
+pub invariant_of-disk : goal.invariant_of-disk
+invariant_of-disk c = record { room = (walks _ _ _ c.requires).0.room }
+
 pub measure-x-requires : goal.measure-x-requires
 measure-x-requires c = walks _ _ _ c.requires
 
@@ -21,15 +24,12 @@ pub returns-then-wanted-x : goal.returns-then-wanted-x
 returns-then-wanted-x c = whole-none _ _ _ _ (let e = c.measure-x.ensures.many in let t = c.if-wanted-x.true in omega arith)
 
 pub no_growth-requires : goal.no_growth-requires
-no_growth-requires c = let p = c.requires in let w = walks _ _ _ p in (w.0.room, w.1.slot)
+no_growth-requires c = let p = c.requires in (walks _ _ _ p).1.slot
 
 pub returns-then-no_growth : goal.returns-then-no_growth
 returns-then-no_growth c = let a = c.args in whole-eleven _ _ _ (lacking a.g a.image.now a.p a.wanted)
     (let e = c.measure-x.ensures.many in let t = c.if-wanted-x.false in omega
     arith) (sym c.no_growth.ensures ∙ c.if-no_growth.true)
-
-pub too_few-requires : goal.too_few-requires
-too_few-requires c = let p = c.requires in (walks _ _ _ p).0.room
 
 pub returns-then-too_few : goal.returns-then-too_few
 returns-then-too_few c = let a = c.args in let e = lacks a.g a.image.now a.p a.wanted

@@ -8,8 +8,8 @@ pub returns-then-not-writes : goal.returns-then-not-writes
 returns-then-not-writes c = not-stored (λ l. l) c.args.writes _ _ _ (ap not c.if-not-writes.true) refl
 
 pub returns : goal.returns
-returns c = let a = c.args in let link = c.set_link.ensures in let put = c.put_part.ensures in stored (λ l. l) a.writes _ _ _ (ap not c.if-not-writes.false)
+returns c = let a = c.args in let link = c.set_link.ensures in stored (λ l. l) a.writes _ _ _ (ap not c.if-not-writes.false)
     (extension-put a.g a.p a.image.now a.e a.x
     (c.from-hash.ensures
     ∙ ap (byte a.image.now) c.hit_at.ensures) link
-    c.entry_at-at.ensures put c.set_hit.ensures)
+    c.put.ensures)

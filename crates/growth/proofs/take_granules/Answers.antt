@@ -7,19 +7,15 @@ use Rattle.passed.proofs.Ready.{walks}
 use native.Mathlib.Omega.{arith}
 use Rattle.growth.proofs.take_granules.Goals as goal
 
+pub invariant_of-last_run : goal.invariant_of-last_run
+invariant_of-last_run c = record { room = (walks _ _ _ c.requires.0).0.room }
+
 pub last_run-end-requires : goal.last_run-end-requires
-last_run-end-requires c = (
-  (walks _ _ _ c.requires.0).0.room,
-  tail-slot _ _ c.args.lowest c.requires.0
-      c.requires.1,
-)
+last_run-end-requires c = tail-slot _ _ c.args.lowest c.requires.0 c.requires.1
 
 pub loop-left-init : goal.loop-left-init
 loop-left-init c = turning-start _ _ _ c.requires.0 c.requires.1 c.requires.2
     c.last_run-end.ensures
-
-pub further-m-requires : goal.further-m-requires
-further-m-requires c = c.loop-left.invariant.room
 
 pub overflow_sub-runs : goal.overflow_sub-runs
 overflow_sub-runs c = let q = c.further-m.ensures.short c.if-m-gt0.true in
@@ -77,7 +73,7 @@ loop-left-preserved-then-runs-lt-PAIRS c = turn-pair _ _ _ c.loop-left.invariant
     c.choose-c.ensures) c.put_pair.ensures
 
 pub next_slot-requires : goal.next_slot-requires
-next_slot-requires c = let l = c.loop-left in (l.invariant.room, l.invariant.growing.slot-low)
+next_slot-requires c = let l = c.loop-left in l.invariant.growing.slot-low
 
 pub returns-in-None : goal.returns-in-None
 returns-in-None c = turn-stuck _ _ _ c.loop-left.invariant

@@ -10,8 +10,11 @@ use Rattle.growth.proofs.Whole.{on-paper, gat-inside}
 use Rattle.growth.proofs.Put.{put_back}
 use Rattle.growth.proofs.too_few_slots.Goals as goal
 
+pub invariant_of-disk : goal.invariant_of-disk
+invariant_of-disk c = record { room = (walks _ _ _ c.requires.0).0.room }
+
 pub runs-pairs-requires : goal.runs-pairs-requires
-runs-pairs-requires c = let p = c.requires in ((walks _ _ _ p.0).0.room, tail-slot _ _ c.args.lowest p.0 p.1)
+runs-pairs-requires c = let p = c.requires in tail-slot _ _ c.args.lowest p.0 p.1
 
 pub returns-then-k-pairs : goal.returns-then-k-pairs
 returns-then-k-pairs c = let p = c.requires in (
@@ -21,14 +24,7 @@ returns-then-k-pairs c = let p = c.requires in (
 )
 
 pub last_run-end-requires : goal.last_run-end-requires
-last_run-end-requires c = let p = c.requires in (
-  (walks _ _ _ p.0).0.room,
-  tail-slot _ _
-      c.args.lowest p.0 p.1,
-)
-
-pub all_clear-requires : goal.all_clear-requires
-all_clear-requires c = let p = c.requires in (walks _ _ _ p.0).0.room
+last_run-end-requires c = let p = c.requires in tail-slot _ _ c.args.lowest p.0 p.1
 
 pub returns-then-all_clear : goal.returns-then-all_clear
 returns-then-all_clear c = let p = c.requires in let l = c.last_run-end.ensures in let n = c.runs-pairs.ensures in let t = c.if-k-pairs.false in (

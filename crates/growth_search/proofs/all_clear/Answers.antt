@@ -8,11 +8,9 @@ pub loop-met-init : goal.loop-met-init
 loop-met-init c = clearing-start _ _ (omega arith) (omega arith)
 
 pub overflow_add-n : goal.overflow_add-n
-overflow_add-n c = let m = c.requires.most in let f = clearing-fits _ _ {most = 18446744073709551615} c.loop-met.invariant (omega arith) (omega arith) in
+overflow_add-n c = let m = c.args.disk.now.room.most in
+    let f = clearing-fits _ _ {most = 18446744073709551615} c.loop-met.invariant (omega arith) (omega arith) in
     omega arith
-
-pub is_clear-requires : goal.is_clear-requires
-is_clear-requires c = c.requires
 
 pub returns-then-not-is_clear : goal.returns-then-not-is_clear
 returns-then-not-is_clear c = clearing-stop _ _ c.loop-met.invariant (omega arith) c.is_clear.ensures (ap not c.if-not-is_clear.true)

@@ -4,10 +4,10 @@ use native.Mathlib.Omega.{arith}
 use Rattle.growth_search.proofs.longest_from.Goals as goal
 
 pub loop-n-init : goal.loop-n-init
-loop-n-init c = low-start _ _ c.requires.1
+loop-n-init c = low-start _ _ c.requires
 
 pub taken-requires : goal.taken-requires
-taken-requires c = (c.requires.0, let e = c.granules-total.ensures.0 in omega arith)
+taken-requires c = (let e = c.granules-total.ensures.0 in omega arith)
 
 pub loop-n-preserved-then-taken : goal.loop-n-preserved-then-taken
 loop-n-preserved-then-taken c = low-taken _ _ c.loop-n.invariant
@@ -15,7 +15,7 @@ loop-n-preserved-then-taken c = low-taken _ _ c.loop-n.invariant
     (sym c.taken.ensures ∙ c.if-taken.true)
 
 pub overflow_add-here : goal.overflow_add-here
-overflow_add-here c = let s = c.loop-n.invariant.start in let m = c.requires.0.most in let e = c.granules-total.ensures.0 in
+overflow_add-here c = let s = c.loop-n.invariant.start in let m = c.args.disk.now.room.most in let e = c.granules-total.ensures.0 in
     let t = c.loop-n-test.true in omega arith
 
 pub loop-n-preserved-then-here-long : goal.loop-n-preserved-then-here-long

@@ -7,7 +7,7 @@ use Rattle.growth_search.proofs.next_slot.Goals.{else-hit-eq0-via-then-hit-eq0+t
 use Rattle.growth_search.proofs.next_slot.Goals.{else-hit-eq0-via-else-hit-eq0}
 
 pub loop-s-init : goal.loop-s-init
-loop-s-init c = looking-start _ _ c.requires.1
+loop-s-init c = looking-start _ _ c.requires
 
 pub returns-then-kept_columns-s : goal.returns-then-kept_columns-s
 returns-then-kept_columns-s c = let e = c.columns-n.ensures.is in (

@@ -6,5 +6,5 @@ pub overflow_cast-result : goal.overflow_cast-result
 overflow_cast-result c = let q = counted-low c.args.u c.args.n c.gat_byte-x.result in omega arith
 
 pub returns : goal.returns
-returns c = let a = c.args in units-count a.g a.image.now a.b a.u a.n c.requires.1 c.requires.2 c.gat_byte-x.ensures.is
+returns c = let a = c.args in let disk = a.disk.now in units-count disk.g disk.image.now a.b a.u a.n c.requires.1 disk.room.units-high c.gat_byte-x.ensures.is
     c.gat_byte-x.ensures.small

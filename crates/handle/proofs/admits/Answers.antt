@@ -12,16 +12,16 @@ returns-then-checked-ne0 c = tells-own _ (check-stop _ _ _ c.requires c.if-check
 pub returns-then-not-ranged : goal.returns-then-not-ranged
 returns-then-not-ranged c = let z = c.if-checked-ne0.false in
     let t = tells _ z (check-then _ _ _ c.requires z ∙ first-hit (ap not c.if-not-ranged.true) 12 _) (λ q. omega (arith, q)) in
-    (c.unplaced.ensures ∙ t.0, t.1)
+    (c.refusal.ensures ∙ t.0, t.1)
 
-pub fresh-requires : goal.fresh-requires
-fresh-requires c = checked-room _ _ (checked _ _ c.requires c.if-checked-ne0.false)
+pub invariant_of-fresh : goal.invariant_of-fresh
+invariant_of-fresh c = record { room = checked-room _ _ (checked _ _ c.requires c.if-checked-ne0.false) }
 
 pub returns-then-not-fresh : goal.returns-then-not-fresh
 returns-then-not-fresh c = let z = c.if-checked-ne0.false in
     let t = tells _ z (check-then _ _ _ c.requires z ∙ first-skip (ap not c.if-not-ranged.false) 12 _ ∙ first-hit
     (not-no (is-false c.fresh.ensures c.if-not-fresh.true)) 7 _) (λ q. omega (arith, q)) in
-    (c.unplaced-then-not-fresh.ensures ∙ t.0, t.1)
+    (c.refusal-then-not-fresh.ensures ∙ t.0, t.1)
 
 pub returns : goal.returns
 returns c = check-then _ _ _ c.requires c.if-checked-ne0.false ∙ first-skip (ap not c.if-not-ranged.false) _ _ ∙ first-skip

@@ -12,18 +12,21 @@ pub returns-in_err-admits : goal.returns-in_err-admits
 returns-in_err-admits c = let a = c.args in let p = err_from_is_err_and c.from_residual.result c.from_residual.ensures.1 in
     rw (p.1, p.2) (tells-on _ (handle-stop a.g a.image.now a.h a.ranged [] _ refl c.in_err-admits.ensures.1) c.in_err-admits.ensures)
 
+pub invariant_of-disk : goal.invariant_of-disk
+invariant_of-disk c = let a = c.args in
+    record { room = checked-room _ _ (passed a.g a.image.now a.h a.ranged [] refl refl c.in_ok-admits.ensures).disk }
+
 pub system-requires : goal.system-requires
-system-requires c = let a = c.args in let p = passed a.g a.image.now a.h a.ranged [] refl refl c.in_ok-admits.ensures in
-    (checked-room _ _ p.disk, p.slot)
+system-requires c = let a = c.args in (passed a.g a.image.now a.h a.ranged [] refl refl c.in_ok-admits.ensures).slot
 
 pub returns-then-most-h : goal.returns-then-most-h
 returns-then-most-h c = let a = c.args in let on = handle-then a.g a.image.now a.h a.ranged [] _ refl refl c.in_ok-admits.ensures in
     let z = check-none _ _ _ c.requires c.in_ok-admits.ensures in elim c.then-most-h.branch [
       | then-most-h-via-then-most-h w ↦
-          let t = tells _ z (on ∙ by_level a.g a.image.now a.h _ (lt-ltb _ _ w.if-most-h.true)) (λ q. omega (arith, q)) in (c.unplaced.ensures ∙ t.0, t.1)
+          let t = tells _ z (on ∙ by_level a.g a.image.now a.h _ (lt-ltb _ _ w.if-most-h.true)) (λ q. omega (arith, q)) in (c.refusal.ensures ∙ t.0, t.1)
       | then-most-h-via-else-most-h+then-system w ↦
           let t = tells _ z (on ∙ by-system a.g a.image.now a.h _ (le-ltb _ _ w.if-most-h.false) (sym w.system.ensures ∙ w.if-system.true))
-          (λ q. omega (arith, q)) in (c.unplaced.ensures ∙ t.0, t.1)
+          (λ q. omega (arith, q)) in (c.refusal.ensures ∙ t.0, t.1)
     ]
 
 pub returns : goal.returns

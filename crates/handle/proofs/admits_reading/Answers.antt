@@ -16,7 +16,7 @@ pub returns-then-h-gt5 : goal.returns-then-h-gt5
 returns-then-h-gt5 c = let a = c.args in
     let six : 6 ≡ 0 → ⊥ = λ q. omega (arith, q) in
     let n = handle-then a.g a.image.now a.h a.ranged [] _ refl refl c.in_ok-admits.ensures ∙ first-hit (lt-ltb _ _ c.if-h-gt5.true) 6 _ in
-    let t = tells _ (check-none _ _ _ c.requires c.in_ok-admits.ensures) n six in (c.unplaced.ensures ∙ t.0, t.1)
+    let t = tells _ (check-none _ _ _ c.requires c.in_ok-admits.ensures) n six in (c.refusal.ensures ∙ t.0, t.1)
 
 pub returns : goal.returns
 returns c = let a = c.args in handle-then a.g a.image.now a.h a.ranged [] _ refl refl c.in_ok-admits.ensures ∙

@@ -12,7 +12,7 @@ use Rattle.handle.proofs.fresh.Goals as goal
 use Rattle.handle.proofs.fresh.Goals.{then-is_slot, else-is_slot}
 
 pub primary-requires : goal.primary-requires
-primary-requires c = (c.requires, slot-of _ _ _ (sym c.is_slot.ensures ∙ c.if-is_slot.true))
+primary-requires c = (slot-of _ _ _ (sym c.is_slot.ensures ∙ c.if-is_slot.true))
 
 pub name_at-requires : goal.name_at-requires
 name_at-requires c = elim c.if-is_slot.branch [
@@ -33,8 +33,8 @@ returns-then-primary c = elim c.if-is_slot.branch [
       let there = sym c.is_slot.ensures ∙ w.if-is_slot.true in
       let a = c.args in let q = slot-of _ _ _ there in
       sym (all_yes there _ ∙ all_yes (sym w.primary.ensures ∙ sym w.value-is ∙ c.if-primary.true) _ ∙ all_one _ ∙
-      name-at a.g a.image.now a.h.name a.h.slot (omega arith) ∙
-      ap (λ (x : ℕ). same (take 11 (drop x a.image.now)) a.h.name) (sym c.name_at.ensures) ∙ sym c.same_name.ensures)
+      name-at a.disk.now.g a.disk.now.image.now a.h.name a.h.slot (omega arith) ∙
+      ap (λ (x : ℕ). same (take 11 (drop x a.disk.now.image.now)) a.h.name) (sym c.name_at.ensures) ∙ sym c.same_name.ensures)
   | else-is_slot w ↦ not-both c.if-primary.true (w.value-is ∙ w.if-is_slot.false)
 ]
 

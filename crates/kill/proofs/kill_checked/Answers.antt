@@ -14,5 +14,5 @@ kill_file-requires c = let a = c.args in walks a.g a.image.now a.h c.in_range-ra
     (passed a.g a.image.now a.h c.in_range-ranged.result (protected a.g a.image.now 1 a.h ∷ []) refl refl c.in_default.ensures)
 
 pub returns : goal.returns
-returns c = accepted _ _ _ (handed _ _ 0 c.requires c.carried.ensures) (by-range _ _ _ c.in_range-ranged.ensures refl) c.in_default.ensures
+returns c = accepted _ _ _ (handed _ _ 0 c.requires c.accepted.ensures) (by-range _ _ _ c.in_range-ranged.ensures refl) c.in_default.ensures
     c.kill_file.ensures

@@ -10,8 +10,8 @@ returns-then-eight c = sym (name-numbers c.args.image.now
     (omega arith) c.requires.1
     (λ i. omega (arith, c.shared_slice_known-1.given i))
     (λ i. omega (arith, c.shared_slice_known-2-1.given i)) ∙ simp (
-      ← c.eight.ensures,
-      ← c.eight-2.ensures,
+      ← c.eight.ensures.is,
+      ← c.eight-2.ensures.is,
       ← c.three.ensures,
       ← c.three-then-eight.ensures,
       eq-eqb _ _ c.if-eight.true,
@@ -22,4 +22,4 @@ returns-else-eight c = ne_eqb _ _ c.if-eight.false ∙ sym (name-numbers c.args.
     c.args.at (omega arith) c.requires.1
     (λ i. omega (arith, c.shared_slice_known-1.given i))
     (λ i. omega (arith, c.shared_slice_known-2-1.given i)) ∙ simp
-    (← c.eight.ensures, ← c.eight-2.ensures, ne_eqb _ _ c.if-eight.false))
+    (← c.eight.ensures.is, ← c.eight-2.ensures.is, ne_eqb _ _ c.if-eight.false))

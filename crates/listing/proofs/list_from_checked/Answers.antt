@@ -8,7 +8,10 @@ returns-then-checked-ne0 c = let p = c.requires in rows-refused _ _ _ _ p c.if-c
 
 pub returns-then-table-lt-ROW_BYTES : goal.returns-then-table-lt-ROW_BYTES
 returns-then-table-lt-ROW_BYTES c = let p = c.requires in rows_short _ _ _ _ p c.if-checked-ne0.false c.if-table-lt-ROW_BYTES.true
-    c.unplaced.ensures
+    c.refusal.ensures
+
+pub invariant_of-put_rows : goal.invariant_of-put_rows
+invariant_of-put_rows c = let k = checked _ _ c.requires c.if-checked-ne0.false in record { room = (sound _ _ k.fits k.sound).room }
 
 pub put_rows-requires : goal.put_rows-requires
 put_rows-requires c = let p = c.requires in let k = checked _ _ p c.if-checked-ne0.false in sound _ _ k.fits k.sound

@@ -1,22 +1,15 @@
-use mathlib.Core.Path.{sym, ◌∙◌}
-use native.Mathlib.Omega.{arith}
-use Rattle.listing.proofs.Files.{from-past, from-no, from-yes, from-end}
+use Rattle.std.proofs.Common.{rules, tests, refl, nat_lt, ◌%◌}
+use Rattle.std.proofs.lemmas.Iterator.{YieldsList-from_range}
+use Rattle.std.proofs.lemmas.Iterator.Search.{find_from_yields_List}
+use mathlib.Core.Bool.{◌&&◌}
+use Prim.Native.Nat.{ℕ, ◌-◌}
+use Rattle.listing.proofs.Files.{Tells, found-first}
 use Rattle.listing.proofs.next_listed.Goals as goal
-use Rattle.listing.proofs.next_listed.Goals.{else-s-columns-via-then-s-columns+else-tells, else-s-columns-via-else-s-columns}
-
-pub returns-then-tells : goal.returns-then-tells
-returns-then-tells c =
-    let e = c.columns-columns.ensures.is in
-    let h = c.if-s-columns.true in
-    from-yes _ _ (omega arith) c.loop-s.invariant (record { low = c.loop-s-test.true; held = omega arith }) (sym c.tells.ensures ∙ c.if-tells.true)
-
-pub loop-s-preserved : goal.loop-s-preserved
-loop-s-preserved c = let e = c.columns-columns.ensures.is in c.loop-s.invariant ∙ (elim c.else-s-columns.branch [
-  | else-s-columns-via-then-s-columns+else-tells w ↦
-      let h = w.if-s-columns.true in
-      from-no _ _ (record { low = c.loop-s-test.true; held = omega arith }) (sym w.tells.ensures ∙ w.if-tells.false)
-  | else-s-columns-via-else-s-columns w ↦ from-past _ _ c.loop-s-test.true e w.if-s-columns.false
-])
 
 pub returns : goal.returns
-returns c = c.loop-s.invariant ∙ from-end _ _ c.loop-s-test.false
+returns c =
+    let disk = c.args.disk.now in
+    let columns = c.columns-columns in
+    found-first disk.g disk.image.now columns.ensures.is c.args.from _
+    (find_from_yields_List (λ (s : ℕ). nat_lt (s % 32) columns.result && Tells disk.g disk.image.now s) c.find.new.self _ c.find.result c.find.ensures.ran
+    (YieldsList-from_range c.args.from 256 (256 - c.args.from) refl refl) (λ x b q k. search (rules, tests)))

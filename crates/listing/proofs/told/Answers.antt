@@ -13,4 +13,4 @@ pub loop-s-preserved : goal.loop-s-preserved
 loop-s-preserved c = telling-more _ _ c.in-Some.ensures _ _ c.if-left-eq0.false c.loop-s.invariant
 
 pub returns : goal.returns
-returns c = c.no_file.ensures ∙ ap no_file c.unplaced.ensures ∙ telling-end _ _ c.in_default.ensures c.loop-s.invariant
+returns c = c.no_file.ensures ∙ ap no_file c.none.ensures ∙ telling-end _ _ c.in_default.ensures c.loop-s.invariant

@@ -5,7 +5,8 @@ use Prim.Native.Nat.{◌-◌, ◌<◌}
 use Rattle.load_record.proofs.next_record.Given as goal
 
 abbrev pub invariant-loop-x : goal.invariant-loop-x
-invariant-loop-x l = (l.p < 16777216) × Looked (bytes_of l.g l.image l.s) l.p l.x × PassingRecords (bytes_of l.g l.image l.s) l.i l.p
+invariant-loop-x l = (l.p < 16777216) × Looked (bytes_of l.disk.g l.disk.image.now l.s) l.p l.x
+    × PassingRecords (bytes_of l.disk.g l.disk.image.now l.s) l.i l.p
 
 abbrev pub decreases-loop-x : goal.decreases-loop-x
 decreases-loop-x l = l.size - l.p

@@ -15,5 +15,5 @@ returns-else-primary c = c.if-primary.false ∙ sym (all-no (sym c.primary.ensur
 pub returns-then-primary : goal.returns-then-primary
 unfolding carries
 returns-then-primary c = let a = c.args in sym (all_yes (sym c.primary.ensures ∙ c.if-primary.true) _ ∙ all_one _ ∙
-    name-at a.g a.image.now a.name.now a.s (omega arith) ∙
-    ap (λ (x : ℕ). same (take 11 (drop x a.image.now)) a.name.now) (sym c.name_at.ensures) ∙ sym c.same_name.ensures)
+    name-at a.disk.now.g a.disk.now.image.now a.name.now a.s (omega arith) ∙
+    ap (λ (x : ℕ). same (take 11 (drop x a.disk.now.image.now)) a.name.now) (sym c.name_at.ensures) ∙ sym c.same_name.ensures)

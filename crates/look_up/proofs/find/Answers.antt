@@ -11,12 +11,11 @@ pub loop-row-init : goal.loop-row-init
 loop-row-init c = (omega arith, finding-start _ _ _)
 
 pub loop-s-init : goal.loop-s-init
-loop-s-init c = let e = c.columns-columns.ensures.is in let t = c.requires.0.thirty in
+loop-s-init c = let e = c.columns-columns.ensures.is in let t = c.args.disk.now.room.thirty in
     (row-start _ _ c.loop-row-test.true (omega arith), c.loop-row.invariant.0, c.loop-row.invariant.1)
 
 pub hit-requires : goal.hit-requires
-hit-requires c = let r = row-slot c.loop-s.invariant.0 (let z = c.loop-s-test.true in omega arith) in
-    (c.requires.0, r)
+hit-requires c = row-slot c.loop-s.invariant.0 (let z = c.loop-s-test.true in omega arith)
 
 pub overflow_add-compared : goal.overflow_add-compared
 overflow_add-compared c = let r = row-slot c.loop-s.invariant.0 (let z = c.loop-s-test.true in omega arith) in
@@ -24,10 +23,9 @@ overflow_add-compared c = let r = row-slot c.loop-s.invariant.0 (let z = c.loop-
 
 pub carries-requires : goal.carries-requires
 carries-requires c = let e = c.columns-columns.ensures.is in let h = row_here c.loop-s.invariant.0 c.loop-s-test.true in (
-  c.requires.0,
   record
       { low = row-slot c.loop-s.invariant.0 (let z = c.loop-s-test.true in omega arith); held = omega arith },
-  c.requires.1,
+  c.requires,
 )
 
 pub returns-then-carries : goal.returns-then-carries
@@ -62,8 +60,8 @@ loop-s-preserved c = let e = c.columns-columns.ensures.is in let l = row-slot c.
 pub loop-row-preserved : goal.loop-row-preserved
 loop-row-preserved c = let i = c.loop-s.invariant.0 in let a = i.ends in let b = i.few in let q = c.loop-s.invariant.1 in let r = c.loop-row-test.true in (
   omega arith,
-  subst (λ (k : ℕ). Finding c.args.g
-      c.args.image.now
+  subst (λ (k : ℕ). Finding c.args.disk.now.g
+      c.args.disk.now.image.now
       c.args.name.now k c.loop-s.compared)
       (row-after i c.loop-s-test.false) (finding-past _ _ _ (row-slot i a) c.columns-columns.ensures.is
       (row-past i c.loop-s-test.false) c.loop-s.invariant.2),

@@ -13,38 +13,34 @@ use mathlib.Core.Path.{◌∙◌, ap, refl, sym}
 use Prim.Native.Nat.{ℕ}
 use Rattle.look_up.proofs.look_up_checked.Goals as goal
 
--- src/lib.rt:79:9
 pub returns-then-checked-ne0 : goal.returns-then-checked-ne0
 returns-then-checked-ne0 c = let p = c.requires in told-stop _ _ _ p c.if-checked-ne0.true
 
--- src/lib.rt:87:9
 pub returns-then-n-ne-NO_PLACE : goal.returns-then-n-ne-NO_PLACE
 returns-then-n-ne-NO_PLACE c = let if1 = c.if-checked-ne0 in let p = c.requires in
-    told _ _ _ (by_place _ _ _ p if1.false c.placed.ensures c.incoming-n.ensures.place)
+    told _ _ _ (by_place _ _ _ p if1.false c.refusal_at.ensures c.incoming-n.ensures.place)
     (sym (check-then _ _ _ p if1.false ∙ first-hit (not-no (hands-bad c.incoming-n.ensures c.if-n-ne-NO_PLACE.true)) _ _)) refl refl
 
--- src/lib.rt:93:9
-pub find-f-requires : goal.find-f-requires
-find-f-requires c = let if2 = c.if-n-ne-NO_PLACE in let incoming = c.incoming-n in let if1 = c.if-checked-ne0 in let p = c.requires in (
-  checked-room _ _ (checked _ _ p if1.false),
-  (ap length (hands-name incoming.ensures if2.false) ∙ well-length _ (hands-good incoming.ensures if2.false)),
-)
+pub invariant_of-find : goal.invariant_of-find
+invariant_of-find c = record { room = checked-room _ _ (checked _ _ c.requires c.if-checked-ne0.false) }
 
--- src/lib.rt:95:9
+pub find-f-requires : goal.find-f-requires
+find-f-requires c = let if2 = c.if-n-ne-NO_PLACE in let incoming = c.incoming-n in
+    ap length (hands-name incoming.ensures if2.false) ∙ well-length _ (hands-good incoming.ensures if2.false)
+
 pub returns-in-None : goal.returns-in-None
 returns-in-None c = let f = finds-as _ _ _
     (hands-name c.incoming-n.ensures
     c.if-n-ne-NO_PLACE.false) c.find-f.ensures in
     let e = finds-none _ _ _ f c.in-None.is in
     told _ _ _ (by_number _ _ _ c.requires 4
-    (λ z. omega arith) c.carried.ensures)
+    (λ z. omega arith) c.after.ensures)
     (sym (check-then _ _ _ c.requires
     c.if-checked-ne0.false ∙ first-skip
     (not_yes (hands-good c.incoming-n.ensures
     c.if-n-ne-NO_PLACE.false)) _ _ ∙ first-hit (ap (λ (l : List ℕ). eqb (length l) 0) e) _ _))
     refl (sym f.compared)
 
--- src/lib.rt:74:1
 pub returns : goal.returns
 unfolding first_or
 returns c = let f = finds-as _ _ _
@@ -52,7 +48,7 @@ returns c = let f = finds-as _ _ _
     c.if-n-ne-NO_PLACE.false) c.find-f.ensures in
     let e = finds-one _ _ _ f c.in-Some.is in
     told _ _ _ (by_number _ _ _ c.requires 0
-    (λ z. omega arith) c.carried-2.ensures)
+    (λ z. omega arith) c.accepted.ensures)
     (sym (check-then _ _ _ c.requires
     c.if-checked-ne0.false ∙ first-skip
     (not_yes (hands-good c.incoming-n.ensures

@@ -1,11 +1,8 @@
 use Rattle.play.proofs.OneCall.{open-refused, open_made, allot-is}
 use Rattle.play.proofs.allot_to.Goals as goal
 
-pub returns-then-o-ne0 : goal.returns-then-o-ne0
-returns-then-o-ne0 c = open-refused _ _ _ _ _ c.open_checked-o.ensures c.if-o-ne0.true
+pub returns-in-Err : goal.returns-in-Err
+returns-in-Err c = open-refused _ _ _ _ _ c.in-Err.ensures
 
-pub returns : goal.returns
-returns c =
-    let if1 = c.if-o-ne0 in
-    let open-checked = c.open_checked-o in
-    open_made _ _ _ _ _ open-checked.ensures if1.false (allot-is _ _ _ _ c.allot_checked-a.ensures)
+pub returns-in-Ok : goal.returns-in-Ok
+returns-in-Ok c = open_made _ _ _ _ _ c.in-Ok.ensures (allot-is _ _ _ _ c.allot_checked.ensures)

@@ -10,14 +10,14 @@ returns-then-not-c c =
     let check-trace = c.check_trace-c in
     let if1 = c.if-checked-ne0 in
     let p = c.requires in
-    by-trace _ _ _ _ p if1.false check-trace.ensures (not-true _ c.if-not-c.true) c.carried.ensures
+    by-trace _ _ _ _ p if1.false check-trace.ensures (not-true _ c.if-not-c.true) c.after.ensures
 
 pub returns-then-results-calls : goal.returns-then-results-calls
 returns-then-results-calls c =
     let check-trace = c.check_trace-c in
     let if1 = c.if-checked-ne0 in
     let p = c.requires in
-    by-room _ _ _ _ p if1.false check-trace.ensures (not-false _ c.if-not-c.false) c.if-results-calls.true c.carried-then-results-calls.ensures
+    by-room _ _ _ _ p if1.false check-trace.ensures (not-false _ c.if-not-c.false) c.if-results-calls.true c.after-then-results-calls.ensures
 
 pub run-requires : goal.run-requires
 run-requires c =

@@ -1,11 +1,8 @@
 use Rattle.play.proofs.OneCall.{open-refused, open_made, read_is}
 use Rattle.play.proofs.read_through.Goals as goal
 
-pub returns-then-o-ne0 : goal.returns-then-o-ne0
-returns-then-o-ne0 c = open-refused _ _ _ _ _ c.open_checked-o.ensures c.if-o-ne0.true
+pub returns-in-Err : goal.returns-in-Err
+returns-in-Err c = open-refused _ _ _ _ _ c.in-Err.ensures
 
 pub returns : goal.returns
-returns c =
-    let if1 = c.if-o-ne0 in
-    let open-checked = c.open_checked-o in
-    open_made _ _ _ _ _ open-checked.ensures if1.false (read_is _ _ _ _ c.read_checked-r.ensures)
+returns c = open_made _ _ _ _ _ c.in-Ok.ensures (read_is _ _ _ _ c.read_checked.ensures)

@@ -20,8 +20,8 @@ name_at-name-requires c = let a = c.args in subst (λ (s : Step). s.file < lengt
     (step_fits a.bytes.now c.loop-i.i
     (omega (arith, c.requires.2, c.loop-i-test.true))).file
 
-pub make-r-requires : goal.make-r-requires
-make-r-requires c = let l = c.loop-i in let p = c.requires in still _ _ _ p.0 p.1 l.invariant.good
+pub make-requires : goal.make-requires
+make-requires c = let l = c.loop-i in let p = c.requires in still _ _ _ p.0 p.1 l.invariant.good
 
 pub bounds-results-i : goal.bounds-results-i
 bounds-results-i c = omega (
@@ -38,7 +38,7 @@ loop-i-preserved c =
     let loop-test = c.loop-i-test in
     let l = c.loop-i in
     let p = c.requires in
-    playing-on _ l.invariant loop-test.true p.2 p.3 step-at.ensures name-at.ensures c.make-r.ensures
+    playing-on _ l.invariant loop-test.true p.2 p.3 step-at.ensures name-at.ensures c.make.ensures
 
 pub shape_of-image : goal.shape_of-image
 shape_of-image c = c.loop-i.invariant.long

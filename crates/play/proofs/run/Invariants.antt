@@ -1,10 +1,6 @@
 use Rattle.play.proofs.Loop.{Playing}
 use Rattle.play_trace.specs.Reading.{read_trace}
-use Prim.Native.Nat.{◌-◌}
 use Rattle.play.proofs.run.Given as goal
 
 abbrev pub invariant-loop-i : goal.invariant-loop-i
 invariant-loop-i l = Playing l.g (read_trace l.bytes) l.calls l.initial.image l.initial.results l.image l.results l.i
-
-abbrev pub decreases-loop-i : goal.decreases-loop-i
-decreases-loop-i l = l.calls - l.i

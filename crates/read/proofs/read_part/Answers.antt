@@ -13,6 +13,6 @@ put_part-requires c = let q = place-fits _ _ _ _ _ c.requires.0 c.requires.1
 
 pub returns : goal.returns
 returns c = let a = c.args in c.put_part.ensures ∙ ap (sets a.buffer.now a.to)
-    (ap (λ (k : ℕ). take a.n (drop k a.image.now)) c.place-p.ensures ∙ sym
+    (ap (λ (k : ℕ). take a.n (drop k a.disk.now.image.now)) c.place-p.ensures ∙ sym
     (fetch-part _ _ _ _ _ c.requires.0
     c.requires.1 c.requires.2))

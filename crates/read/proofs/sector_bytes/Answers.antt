@@ -4,18 +4,18 @@ use mathlib.Core.Path.{sym, ◌∙◌}
 use Rattle.read.proofs.sector_bytes.Goals as goal
 
 pub returns-then-k-word : goal.returns-then-k-word
-returns-then-k-word c = let a = c.args in (bytes-before a.g a.image.now a.s a.k (λ q. c.if-k-word.true (q ∙ sym c.word.ensures.is)), omega arith)
+returns-then-k-word c = let a = c.args in
+    (bytes-before a.disk.now.g a.disk.now.image.now a.s a.k (λ q. c.if-k-word.true (q ∙ sym c.word.ensures.is)), omega arith)
 
-pub returns-then-e-eq0 : goal.returns-then-e-eq0
-returns-then-e-eq0 c = let a = c.args in (
-  bytes_whole a.g a.image.now a.s a.k (c.if-k-word.false ∙ c.word.ensures.is)
-      (sym c.field-e.ensures.is ∙ c.if-e-eq0.true),
+pub returns-in-0 : goal.returns-in-0
+returns-in-0 c = let a = c.args in (
+  bytes_whole a.disk.now.g a.disk.now.image.now a.s a.k (c.if-k-word.false ∙ c.word.ensures.is)
+      (sym c.field.ensures.is ∙ c.in-0.is),
   omega arith,
 )
 
-pub returns : goal.returns
-returns c = let a = c.args in (
-  c.field-e.ensures.is ∙ bytes-last a.g a.image.now a.s a.k
-      (c.if-k-word.false ∙ c.word.ensures.is) (λ q. c.if-e-eq0.false (c.field-e.ensures.is ∙ q)),
+pub returns-in_default : goal.returns-in_default
+returns-in_default c = let a = c.args in (
+  c.field.ensures.is ∙ bytes-last a.disk.now.g a.disk.now.image.now a.s a.k (c.if-k-word.false ∙ c.word.ensures.is) (λ q. omega (arith, q, c.field.ensures.is)),
   omega arith,
 )

@@ -6,4 +6,4 @@ pub returns-then-checked-ne0 : goal.returns-then-checked-ne0
 returns-then-checked-ne0 c = stops _ c.if-checked-ne0.true
 
 pub returns : goal.returns
-returns c = c.unplaced.ensures ∙ is-short _ c.if-checked-ne0.false
+returns c = c.refusal.ensures ∙ is-short _ c.if-checked-ne0.false

@@ -9,4 +9,4 @@ pub returns-then-checked2-ne0 : goal.returns-then-checked2-ne0
 returns-then-checked2-ne0 c = c.naming-then-checked2-ne0.ensures ∙ of-second _ _ c.if-checked-ne0.false c.if-checked2-ne0.true
 
 pub returns : goal.returns
-returns c = c.unplaced.ensures ∙ of-neither _ _ c.if-checked-ne0.false c.if-checked2-ne0.false
+returns c = c.refusal.ensures ∙ of-neither _ _ c.if-checked-ne0.false c.if-checked2-ne0.false

@@ -10,8 +10,8 @@ use Rattle.seek.proofs.owned_at.Goals as goal
 
 pub returns : goal.returns
 unfolding owned chain
-returns c = let a = c.args in (
-  c.entry_walk.ensures.0 ∙ ap (λ (n : ℕ). get_or (each (entry_granules a.g a.image.now) (chain_from a.g a.image.now n a.s)) a.k 0)
-      (c.slots.ensures.is ∙ sym (slots_length a.g a.image.now (omega arith) (omega arith))),
+returns c = let a = c.args in let g = a.disk.now.g in let d = a.disk.now.image.now in (
+  c.entry_walk.ensures.0 ∙ ap (λ (n : ℕ). get_or (each (entry_granules g d) (chain_from g d n a.s)) a.k 0)
+      (c.slots.ensures.is ∙ sym (slots_length g d (omega arith) (omega arith))),
   c.entry_walk.ensures.1,
 )

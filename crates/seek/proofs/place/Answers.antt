@@ -28,4 +28,4 @@ overflow_add-result c = omega (arith, in_image c.granule_bytes-w.ensures c.requi
 pub returns : goal.returns
 unfolding place
 returns c = let a = c.args in let w = c.granule_bytes-w in ap (λ (n : ℕ). w.result * n + a.i % w.result) c.owned_at.ensures.0 ∙ ap
-    (λ (v : ℕ). v * get_or (owned a.g a.image.now a.s) (a.i / v) 0 + a.i % v) w.ensures.is
+    (λ (v : ℕ). v * get_or (owned a.disk.now.g a.disk.now.image.now a.s) (a.i / v) 0 + a.i % v) w.ensures.is

@@ -4,4 +4,4 @@ use Prim.Native.Nat.{◌≤◌}
 use Rattle.seek.proofs.seek_entry.Given as goal
 
 abbrev pub invariant-loop-j : goal.invariant-loop-j
-invariant-loop-j l = (l.left ≤ l.k) × Pairs l.g l.image l.s l.j × Seeking l.g l.image l.s l.k (runs l.g l.image l.s) l.j l.left
+invariant-loop-j l = let g = l.disk.g in let d = l.disk.image.now in (l.left ≤ l.k) × Pairs g d l.s l.j × Seeking g d l.s l.k (runs g d l.s) l.j l.left

@@ -15,8 +15,8 @@ pub loop-s-preserved : goal.loop-s-preserved
 loop-s-preserved c =
     let a = c.args in (
       c.loop-s.invariant.0,
-      none-step (free_slot a.g a.image.now) _ c.loop-s.invariant.1
-          (slot-used a.g a.image.now _ (λ z. c.if-hit-eq0.false (c.hit.ensures.is ∙ z))) (omega arith),
+      none-step (free_slot a.disk.now.g a.disk.now.image.now) _ c.loop-s.invariant.1
+          (slot-used a.disk.now.g a.disk.now.image.now _ (λ z. c.if-hit-eq0.false (c.hit.ensures.is ∙ z))) (omega arith),
     )
 
 pub rows-preserved : goal.rows-preserved
@@ -27,10 +27,11 @@ pub returns-then-hit-eq0 : goal.returns-then-hit-eq0
 returns-then-hit-eq0 c =
     let a = c.args in
     let e = c.columns-n.ensures.is in
-    let t = c.requires.thirty in
-    slots-first a.g a.image.now _ (omega arith) c.loop-s.invariant.1
-    (slot-free a.g a.image.now _ _ c.kept_columns-s.ensures c.rows-test.true (omega arith) t c.loop-s.auto.s (sym c.hit.ensures.is ∙ c.if-hit-eq0.true))
+    let t = c.args.disk.now.room.thirty in
+    slots-first a.disk.now.g a.disk.now.image.now _ (omega arith) c.loop-s.invariant.1
+    (slot-free a.disk.now.g a.disk.now.image.now _ _ c.kept_columns-s.ensures c.rows-test.true (omega arith) t c.loop-s.auto.s
+    (sym c.hit.ensures.is ∙ c.if-hit-eq0.true))
 
 pub returns-after-rows : goal.returns-after-rows
 returns-after-rows c =
-    ap option_to_list c.rows.invariant.0 ∙ slots-none c.args.g c.args.image.now (λ k h. c.rows.invariant.1 k (omega arith))
+    ap option_to_list c.rows.invariant.0 ∙ slots-none c.args.disk.now.g c.args.disk.now.image.now (λ k h. c.rows.invariant.1 k (omega arith))

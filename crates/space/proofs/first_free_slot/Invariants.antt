@@ -6,7 +6,7 @@ use mathlib.Core.Path.{◌≡◌}
 use Rattle.space.proofs.first_free_slot.Given as goal
 
 abbrev pub invariant-loop-s : goal.invariant-loop-s
-invariant-loop-s l = (l.found ≡ None) × NoneBelow (free_slot l.g l.image) (32 * l.row + l.s)
+invariant-loop-s l = (l.found ≡ None) × NoneBelow (free_slot l.disk.g l.disk.image.now) (32 * l.row + l.s)
 
 abbrev pub invariant-rows : goal.invariant-rows
-invariant-rows l = (l.found ≡ None) × NoneBelow (free_slot l.g l.image) (32 * l.row)
+invariant-rows l = (l.found ≡ None) × NoneBelow (free_slot l.disk.g l.disk.image.now) (32 * l.row)

@@ -11,10 +11,12 @@ free_entry-requires c = let p = c.requires in (
       c.loop.invariant.used,
 )
 
+pub invariant_of-disk : goal.invariant_of-disk
+invariant_of-disk c = record { room = same-room _ _ _ c.requires.0.room (unchained-same _ c.requires.0 c.loop.invariant c.free_entry.ensures) }
+
 pub field-requires : goal.field-requires
 field-requires c = let e = unchained-same _ c.requires.0
     c.loop.invariant c.free_entry.ensures in (
-      same-room _ _ _ c.requires.0.room e,
       same-slot _ _ _
           c.requires.0.room e
           c.loop.invariant.used.slot,
@@ -38,7 +40,6 @@ pub field-at-requires : goal.field-at-requires
 field-at-requires c = let e = unchained-same _ c.requires.0
     c.loop.invariant
     c.free_entry.ensures in (
-      same-room _ _ _ c.requires.0.room e,
       same-slot _ _ _
           c.requires.0.room e
           c.loop.invariant.used.slot,

@@ -15,16 +15,19 @@ loop-b-preserved c = (
       c.free_in_eight-n.ensures.0,
 )
 
-pub loop-b-2-preserved : goal.loop-b-2-preserved
-loop-b-2-preserved c = (
+pub loop-rest-init : goal.loop-rest-init
+loop-rest-init c = c.loop-b.invariant
+
+pub loop-rest-preserved : goal.loop-rest-preserved
+loop-rest-preserved c = (
   omega arith,
   (let k = c.clear_bits-n.ensures.1 in omega arith),
   freed-step _ _
-      c.requires.units-low c.loop-b-2.invariant.2
-      c.loop-b-2-test.true c.gat_byte.ensures.is c.clear_bits-n.ensures.0,
+      c.args.disk.now.room.units-low c.loop-rest.invariant.2
+      c.loop-rest-test.true c.gat_byte.ensures.is c.clear_bits-n.ensures.0,
 )
 
 pub returns : goal.returns
-returns c = let z : c.loop-b-2.b ≡ 0 = omega arith in
-    freed-end _ _ (subst (λ (j : ℕ). Freed c.args.g
-    c.args.image.now j c.loop-b-2.n) z c.loop-b-2.invariant.2)
+returns c = let z : c.loop-rest.rest ≡ 0 = omega arith in
+    freed-end _ _ (subst (λ (j : ℕ). Freed c.args.disk.now.g
+    c.args.disk.now.image.now j c.loop-rest.n) z c.loop-rest.invariant.2)

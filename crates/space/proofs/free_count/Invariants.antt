@@ -3,13 +3,10 @@ use Prim.Native.Nat.{◌-◌, ◌≤◌, ◌*◌}
 use Rattle.space.proofs.free_count.Given as goal
 
 abbrev pub invariant-loop-b : goal.invariant-loop-b
-invariant-loop-b l = (l.b ≤ l.g.blocks) × (l.n ≤ 8 * (l.g.blocks - l.b)) × Freed l.g l.image l.b l.n
+invariant-loop-b l = (l.b ≤ l.disk.g.blocks) × (l.n ≤ 8 * (l.disk.g.blocks - l.b)) × Freed l.disk.g l.disk.image.now l.b l.n
 
 abbrev pub decreases-loop-b : goal.decreases-loop-b
 decreases-loop-b l = l.b
 
-abbrev pub invariant-loop-b-2 : goal.invariant-loop-b-2
-invariant-loop-b-2 l = (l.b ≤ l.g.blocks) × (l.n ≤ 8 * (l.g.blocks - l.b)) × Freed l.g l.image l.b l.n
-
-abbrev pub decreases-loop-b-2 : goal.decreases-loop-b-2
-decreases-loop-b-2 l = l.b
+abbrev pub invariant-loop-rest : goal.invariant-loop-rest
+invariant-loop-rest l = (l.rest ≤ l.disk.g.blocks) × (l.n ≤ 8 * (l.disk.g.blocks - l.rest)) × Freed l.disk.g l.disk.image.now l.rest l.n

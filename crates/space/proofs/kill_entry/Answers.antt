@@ -13,5 +13,5 @@ returns c = let a = c.args in c.set_hit.ensures
     ∙ ap (λ (d : List ℕ). set d (hit_at a.g a.s) 0)
     (c.set_field.ensures
     ∙ ap (λ (v : ℕ). set_field a.g a.image.now a.s 0 v)
-    (c.without_bit-flags.ensures.is ∙ ap (without_bit 4)
-    c.field.ensures.is))
+    (c.without_bit.ensures.is ∙ ap (without_bit 4)
+    c.field-flags.ensures.is))

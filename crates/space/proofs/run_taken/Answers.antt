@@ -5,10 +5,9 @@ use Rattle.space.proofs.run_taken.Goals as goal
 
 pub units_taken-requires : goal.units_taken-requires
 units_taken-requires c = let m = c.loop-u.invariant.cut.unit in (
-  cut_inside _ c.requires.0 c.requires.1
+  cut_inside _ c.args.disk.now.room c.requires
       c.loop-u.invariant.cut,
   omega arith,
-  c.requires.0.units-high,
 )
 
 pub returns-then-units_taken : goal.returns-then-units_taken
@@ -16,8 +15,8 @@ returns-then-units_taken c = let if1 = c.loop-u-test in let l = c.loop-u in
     looking-hit _ _ l.invariant if1.true c.units_taken.ensures c.if-units_taken.true
 
 pub overflow_add-b : goal.overflow_add-b
-overflow_add-b c = let l = cut_low _ c.requires.0
-    c.requires.1
+overflow_add-b c = let l = cut_low _ c.args.disk.now.room
+    c.requires
     c.loop-u.invariant.cut in
     omega arith
 
@@ -26,8 +25,7 @@ loop-u-preserved c = let if1 = c.loop-u-test in let l = c.loop-u in looking-step
 
 pub units_taken-requires-2 : goal.units_taken-requires-2
 units_taken-requires-2 c = (
-  cut_inside _ c.requires.0
-      c.requires.1 c.loop-u.invariant.cut,
+  cut_inside _ c.args.disk.now.room
+      c.requires c.loop-u.invariant.cut,
   omega arith,
-  c.requires.0.units-high,
 )

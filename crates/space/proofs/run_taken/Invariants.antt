@@ -2,7 +2,7 @@ use Rattle.space.proofs.Looks.{LookingThrough}
 use Rattle.space.proofs.run_taken.Given as goal
 
 abbrev pub invariant-loop-u : goal.invariant-loop-u
-invariant-loop-u l = LookingThrough l.g l.image l.a l.n l.b l.u l.left
+invariant-loop-u l = LookingThrough l.disk.g l.disk.image.now l.a l.n l.b l.u l.left
 
 abbrev pub decreases-loop-u : goal.decreases-loop-u
 decreases-loop-u l = l.left

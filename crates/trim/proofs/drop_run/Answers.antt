@@ -7,8 +7,11 @@ use Prim.Native.Nat.{◌-◌}
 use Rattle.trim.proofs.drop_run.Goals as goal
 use Rattle.trim.proofs.drop_run.Goals.{else-extension-via-then-extension+else-k-eq0, else-extension-via-else-extension}
 
+pub invariant_of-disk : goal.invariant_of-disk
+invariant_of-disk c = record { room = (last-reads _ _ _ _ (one_of c.requires.0 c.requires.1)).0 }
+
 pub runs-k-requires : goal.runs-k-requires
-runs-k-requires c = last-reads _ _ _ _ (one_of c.requires.0 c.requires.1)
+runs-k-requires c = (last-reads _ _ _ _ (one_of c.requires.0 c.requires.1)).1
 
 pub overflow_sub-k : goal.overflow_sub-k
 overflow_sub-k c = let a = c.args in omega (
@@ -21,12 +24,12 @@ overflow_sub-k c = let a = c.args in omega (
 pub run_length-len-requires : goal.run_length-len-requires
 run_length-len-requires c = let a = c.args in let o = one_of c.requires.0 c.requires.1 in
     let l = last-reads a.g a.image.now a.p a.e o in let w = last-run a.g a.image.now a.p a.e o in
-    (l.0, l.1, omega (arith, c.runs-k.ensures.is))
+    (l.1, omega (arith, c.runs-k.ensures.is))
 
 pub run_start-a-requires : goal.run_start-a-requires
 run_start-a-requires c = let a = c.args in let o = one_of c.requires.0 c.requires.1 in
     let l = last-reads a.g a.image.now a.p a.e o in let w = last-run a.g a.image.now a.p a.e o in
-    (l.0, l.1, omega (arith, c.runs-k.ensures.is))
+    (l.1, omega (arith, c.runs-k.ensures.is))
 
 pub free_run-requires : goal.free_run-requires
 free_run-requires c = let h = on-disk _ _ _ _ _ c.requires.0
@@ -51,13 +54,13 @@ returns-then-n-len c = let free-run = c.free_run in let if1 = c.if-n-len in let 
     )
 
 pub flag-extension-requires : goal.flag-extension-requires
-flag-extension-requires c = let l = last-reads _ _ _ _ (one_of c.requires.0 c.requires.1) in (l.0, l.1, omega arith)
+flag-extension-requires c = let l = last-reads _ _ _ _ (one_of c.requires.0 c.requires.1) in (l.1, omega arith)
 
 pub field-before-requires : goal.field-before-requires
 field-before-requires c = let l = last-reads _ _ _ _
     (one_of c.requires.0
     c.requires.1) in
-    (l.0, l.1, omega arith)
+    (l.1, omega arith)
 
 pub free_run-requires-2 : goal.free_run-requires-2
 free_run-requires-2 c = let run-start = c.run_start-a in let run_length = c.run_length-len in let runs = c.runs-k in let p = c.requires in

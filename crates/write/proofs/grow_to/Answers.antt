@@ -1,7 +1,7 @@
 use Rattle.lists.specs.Sizes.{round-least, bytes_pos}
 use Rattle.growth.proofs.Whole.{Whole, whole-none}
 use Rattle.meaning.specs.Growth.{lacking}
-use Rattle.growth.specs.Number.{number_of}
+use Rattle.refusal.specs.Why.{number_of}
 use Prim.Native.Nat.{ℕ}
 use mathlib.Core.Path.{subst}
 use native.Mathlib.Omega.{arith}

@@ -19,6 +19,9 @@ overflow_add-i c = let h = c.requires.2.high in omega (arith, c.loop-done.invari
 pub overflow_add-i-in-loop-done : goal.overflow_add-i-in-loop-done
 overflow_add-i-in-loop-done c = let h = c.requires.2.high in omega (arith, c.loop-done.invariant.0)
 
+pub invariant_of-place : goal.invariant_of-place
+invariant_of-place c = let p = c.requires.0.sound in record { room = (same-sound _ _ _ p c.loop-done.invariant.1.same).room }
+
 -- src/lib.rt:30:13
 pub place-p-requires : goal.place-p-requires
 place-p-requires c = let p = c.requires in let loop = c.loop-done in let h = p.2.high in

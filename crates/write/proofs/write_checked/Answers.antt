@@ -1,5 +1,5 @@
 use Rattle.meaning.specs.Refusal.{carried}
-use Rattle.growth.proofs.Numbers.{not-zero}
+use Rattle.refusal.proofs.Numbers.{not-zero}
 use Rattle.write.proofs.Calls.{refused, not-grown, written, fit, stores, sized, old-fits, size_is, number_is, image-is, sizes-low, old-owned}
 use Rattle.growth.proofs.Handed.{ready}
 use Rattle.passed.proofs.Checked.{passed, checked-room, handed}
@@ -14,11 +14,14 @@ pub returns-in-Err : goal.returns-in-Err
 returns-in-Err c = let a = c.args in let e = c.in-Err.ensures in
     refused a.g a.image.now a.mode a.h a.n a.buffer.now c.write_ranged-ranged.ensures (handed _ _ _ c.requires e.0) refl e.1
 
+pub invariant_of-size_of : goal.invariant_of-size_of
+invariant_of-size_of c = let a = c.args in
+    let w = passed a.g a.image.now a.h c.write_ranged-ranged.result (protected a.g a.image.now 4 a.h ∷ []) refl refl c.in_default.ensures in
+    record { room = checked-room _ _ w.disk }
+
 pub size_of-old-requires : goal.size_of-old-requires
-size_of-old-requires c = let a = c.args in let the-write-ranged = c.write_ranged-ranged in
-    let w = passed a.g a.image.now a.h the-write-ranged.result (protected a.g a.image.now 4 a.h ∷ []) refl
-    refl c.in_default.ensures in
-    (checked-room _ _ w.disk, w.slot)
+size_of-old-requires c = let a = c.args in
+    (passed a.g a.image.now a.h c.write_ranged-ranged.result (protected a.g a.image.now 4 a.h ∷ []) refl refl c.in_default.ensures).slot
 
 pub overflow_add-end : goal.overflow_add-end
 overflow_add-end c = let args = c.args in let the-write-ranged = c.write_ranged-ranged in
@@ -40,7 +43,7 @@ pub returns-in-Err-grow_to : goal.returns-in-Err-grow_to
 returns-in-Err-grow_to c = let a = c.args in let ranged = c.write_ranged-ranged.ensures in let e = c.in-Err-grow_to.ensures in
     let s = size_is a.g a.image.now a.mode a.h a.n a.buffer.now ranged c.size_of-old.ensures.is c.size_after-size.ensures in
     not-grown a.g a.image.now a.mode a.h a.n a.buffer.now ranged
-    (handed _ _ _ c.requires (c.carried.ensures ∙ ap (λ (k : ℕ). carried a.checked k) c.number.ensures)) refl c.in_default.ensures
+    (handed _ _ _ c.requires c.after.ensures) refl c.in_default.ensures
     (number_is a.g a.image.now a.mode a.h a.n a.buffer.now ranged s e.0) (not-zero _)
     (image-is a.g a.image.now a.mode a.h a.n a.buffer.now ranged _ s e.1)
 
@@ -85,7 +88,7 @@ returns c = let a = c.args in let the-write-ranged = c.write_ranged-ranged in le
     let the-grow-to = c.in_default-grow_to in let the-put-record = c.put_record in
     let s = size_is a.g a.image.now a.mode a.h a.n a.buffer.now the-write-ranged.ensures the-size-of.ensures.is
     the-size-after.ensures in
-    written a.g a.image.now a.mode a.h a.n a.buffer.now the-write-ranged.ensures (handed _ _ 0 p c.carried-2.ensures)
+    written a.g a.image.now a.mode a.h a.n a.buffer.now the-write-ranged.ensures (handed _ _ 0 p c.accepted.ensures)
     the-size-of.ensures.is refl c.in_default.ensures (number_is a.g a.image.now a.mode a.h a.n a.buffer.now
     the-write-ranged.ensures s the-grow-to.ensures.0) refl (image-is a.g a.image.now a.mode a.h a.n a.buffer.now
     the-write-ranged.ensures 0 s the-grow-to.ensures.1) s the-put-record.ensures
