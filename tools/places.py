@@ -19,7 +19,7 @@ LINES = {
     '1 a flag beside a value': r'^    pub (is|ok|here|more|well|old): bool',
     '1 a number for a refusal beside a value': r'^    pub number: u8',
     '1 a number for a kind': r'^    pub kind: (u8|usize)',
-    '1 a number handed out, 0 for no refusal': r'^(pub )?fn .*-> u8$|^\) -> u8$',
+    '1 a number handed out, 0 for no refusal': r'^ *(pub )?fn .*-> u8$|^ *\) -> u8$',
     '1 a number for none': r'\b(return|==|!=|found =|number|at:) (256|NO_SLOT)\b(?! [*+])|\b(NO_SLOT|NO_PLACE|NO_DRIVE|NOWHERE)\b',
     '1 a number tested for a refusal': r'\b(number|refused|\.number) [!=]= 0\b',
     "1 a refusal's number written out": r'\b(unplaced|placed|carried|refused|Err)\((checked, )?\d+\b',
@@ -43,7 +43,7 @@ FACTS = {
     '5 requires that an entry lies in the image': r'entry_at g \w+ \+ 32 ≤',
     '5 requires that the disk can be walked (Walkable)': r'\bWalkable\b',
 }
-FN = re.compile(r'^(pub )?fn (\w+)')
+FN = re.compile(r'^( *)(pub )?fn (\w+)')
 
 
 def functions(text):
@@ -55,13 +55,13 @@ def functions(text):
         if not m:
             at += 1
             continue
-        start = at
-        while at < len(lines) and lines[at] != '{':
+        start, margin = at, m.group(1)
+        while at < len(lines) and lines[at] != margin + '{':
             at += 1
         body = at
-        while at < len(lines) and lines[at] != '}':
+        while at < len(lines) and lines[at] != margin + '}':
             at += 1
-        yield start, m.group(2), '\n'.join(lines[start:body]), '\n'.join(lines[body:at + 1])
+        yield start, m.group(3), '\n'.join(lines[start:body]), '\n'.join(lines[body:at + 1])
         at += 1
 
 
@@ -82,9 +82,9 @@ def places(files):
         clause = False
         for n, line in enumerate(text.split('\n'), 1):
             code = line.split('//')[0]
-            if re.match(r'^    (requires|ensures)\b', code):
+            if re.match(r'^ +(requires|ensures)\b', code):
                 clause = True
-            elif code.startswith('{') or re.match(r'^\S', code):
+            elif re.match(r'^ *\{$', code) or re.match(r'^\S', code):
                 clause = False
             if clause or code.startswith('ghost '):
                 continue
