@@ -1,32 +1,34 @@
 -- Two contents held against each other, byte by byte and run by run.
 use mathlib.Core.Path.{◌≡◌, refl, sym, ap, ◌∙◌}
 use mathlib.Core.Logic.{⊎_elim}
-use mathlib.Core.Bool.{Bool, true, not, cond}
+use mathlib.Core.Bool.{Bool, true, ◌&&◌, and_assoc, and-true, not, cond}
 use mathlib.Core.List.{List, [], ◌∷◌, ◌++◌}
-use Rattle.std.specs.Str.{bytes_eq}
 use Rattle.std.specs.Prelude.{Option, Some, None, min, nat_eq}
 use Rattle.std.specs.List.{zip, position_or_len}
 use Rattle.std.specs.Option.{unwrap_or}
 use Rattle.std.proofs.lemmas.Bool.Decides.{nat_tests}
 use Rattle.std.proofs.lemmas.Slice.Zip.{length-zip}
-use lib.Dec.{ltb}
-use Rattle.std.proofs.lemmas.Slice.Eq.{bytes_eq-Decides}
+use lib.Dec.{eqb, ltb}
 use Prim.Native.Nat.{ℕ, suc, ◌+◌, ◌-◌, ◌*◌, ◌≤◌, ◌<◌}
 use native.Mathlib.Omega.{arith}
 use native.Mathlib.Nat.{zero-add, add-zero}
-use lib.ListN.{length, take, drop}
+use native.Mathlib.Numerals.{add-one}
+use lib.ListN.{length, get_or, take, drop, drop_of_length-le}
+use lib.Seq.{drop-cons}
+use borrow.Author.Tests.{eqb-true}
+use Rattle.meaning.specs.Lists.{same}
 use Rattle.meaning.specs.Layout.{granule_bytes}
 use Rattle.meaning.specs.Entries.{size_of, in_use}
 use Rattle.meaning.specs.Chain.{owned, place}
 use Rattle.meaning.specs.Read.{fetch}
 use Rattle.meaning.specs.declared.Geometry.{Geometry}
-use Rattle.lists.specs.Tests.{and_l, le-or-lt}
+use Rattle.lists.specs.Tests.{and_l, all-at, le-or-lt}
 use Rattle.seek.specs.Seek.{Used}
 use Rattle.read.proofs.ReadParts.{map-run, fetch-append, length-fetch}
 use Rattle.file_runs.specs.Along.{Along}
 use Rattle.file_runs.specs.declared.FileRun.{FileRun}
 use Rattle.differences.specs.Compare.{parting}
-use Rattle.differences.proofs.Parting.{parting-none, parting-nothing, parting-on, parting-past, parting-in}
+use Rattle.differences.proofs.Parting.{same-parting, parting-none, parting-nothing, parting-past, parting-in}
 use Rattle.compare_order.specs.Whole.{WholeDisk, StartsFile}
 
 -- two bytes held against each other, one of either part
@@ -60,14 +62,35 @@ found-apart a b {r} {n} e f q =
     ∙ or-end (parting a b) (length a) (length (zip a b)) l (omega (arith, length-zip {A = ℕ} {B = ℕ} a b)) in
     (y, omega arith)
 
--- parts that are the same are alike to their end
-parting-self : (xs : List ℕ) → parting xs xs ≡ length xs
-unfolding parting
-parting-self [] = refl
-parting-self (x ∷ xs) = parting-on x x xs xs refl ∙ ap suc (parting-self xs)
+-- Whether two parts are the same, i bytes of them compared ------------------------------------------------------------------
 
-pub same_alike : (a b : List ℕ) {r : Bool} → r ≡ bytes_eq a b → r ≡ true → (length a ≡ parting a b) × (length a ≤ length a)
-same_alike a b e f = let q = (bytes_eq-Decides a b).0 (sym e ∙ f) in (sym (parting-self a) ∙ ap (parting a) q, omega arith)
+module _ (a b : List ℕ) where
+  pub record SameSoFar (i : ℕ) (r : Bool) : Type 0 where
+    pub low : i ≤ length a
+    pub rest : same a b ≡ (r && same (drop i a) (drop i b))
+
+  pub same_start : SameSoFar 0 true
+  same_start = record { low = omega arith; rest = refl }
+
+  pub same-on : {i : ℕ} {r : Bool} → length a ≡ length b → i < length a → SameSoFar i r → SameSoFar (i + 1) (r && eqb (get_or a i 0) (get_or b i 0))
+  same-on {i} {r} l h k =
+      let p = drop-cons a i 0 h in let q = drop-cons b i 0 (omega arith) in
+      record {
+        low = omega arith;
+        rest = k.rest ∙ (λ j. r && same (p j) (q j)) ∙ sym (and_assoc r (eqb (get_or a i 0) (get_or b i 0)) (same (drop (suc i) a) (drop (suc i) b)))
+            ∙ ap (λ (x : ℕ). (r && eqb (get_or a i 0) (get_or b i 0)) && same (drop x a) (drop x b)) (sym (add-one i));
+      }
+
+  pub same_end : {i : ℕ} {r : Bool} → length a ≡ length b → length a ≤ i → SameSoFar i r → r ≡ same a b
+  same_end {i} {r} l h k =
+      let p = drop_of_length-le a {i = i} h in let q = drop_of_length-le b {i = i} (omega arith) in
+      sym (k.rest ∙ (λ j. r && same (p j) (q j)) ∙ and-true r)
+
+  -- parts that are the same are alike to their end
+  pub same_alike : {n : ℕ} {r : Bool} → n ≡ length a → r ≡ same a b → r ≡ true → (n ≡ parting a b) × (n ≤ length a)
+  same_alike {n} e f h =
+      let q = eqb-true (parting a b) (length a) (all-at _ (sym (same-parting a b) ∙ sym f ∙ h) 1) in
+      (omega arith, omega arith)
 
 -- the smaller of two numbers
 module _ (n m : ℕ) {r : ℕ} (e : r ≡ min n m) where

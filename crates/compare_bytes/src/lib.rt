@@ -2,6 +2,7 @@
 #![tactic(auto)]
 
 ghost use Rattle.std.specs.Prelude.{◌≡◌, ◌<◌, ◌≤◌, length};
+ghost use Rattle.meaning.specs.Lists.{same};
 ghost use Rattle.meaning.specs.Entries.{size_of};
 ghost use Rattle.meaning.specs.Read.{fetch};
 ghost use Rattle.differences.specs.Compare.{parting};
@@ -9,12 +10,25 @@ ghost use Rattle.compare_order.specs.Whole.{WholeDisk, StartsFile};
 
 use layout::Disk;
 
+// Whether two parts of one length are the same. It goes to their end whatever it finds, so that a machine that can compares many bytes at
+// once. `==` would do so by a function of C's, which whoever links the library would have to have.
+fn equal(a: &[u8], b: &[u8]) -> bool
+    requires { length a.now ≡ length b.now }
+    ensures { result ≡ same a.now b.now }
+{
+    let mut same = true;
+    for i in 0..a.len() {
+        same = same & (a[i] == b[i]);
+    }
+    same
+}
+
 // How many bytes at the start of two parts are alike.
 fn alike(a: &[u8], b: &[u8]) -> usize
     requires { length a.now ≡ length b.now }
     ensures { (result ≡ parting a.now b.now) × (result ≤ length a.now) }
 {
-    if a == b {
+    if equal(a, b) {
         return a.len();
     }
     a.iter().zip(b).position(|(x, y)| x != y).unwrap_or(a.len())

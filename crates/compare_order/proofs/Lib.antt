@@ -1,4 +1,5 @@
 pub mod Names
 pub mod Pairs
+pub mod Moving
 pub mod Sorting
 pub mod Merging

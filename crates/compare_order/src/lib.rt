@@ -63,8 +63,13 @@ fn put_at(order: &mut [u8], n: usize, i: usize, x: u8)
     requires { (i ≤ n) × (n < length order.old) }
     ensures { PutIn order.old n i x order.new }
 {
-    order.copy_within(i..n, i + 1);
-    order[i] = x;
+    let mut carried = x;
+    for k in i..n {
+        let next = order[k];
+        order[k] = carried;
+        carried = next;
+    }
+    order[n] = carried;
 }
 
 // Slot s, after all slots below it: a file goes to its place in the table. How many are there then.

@@ -31,7 +31,7 @@ fn hash_differs(disk: &Disk, files: &[u8], s: usize) -> bool
     requires { Slot disk.now.g disk.now.image.now s × FileNoted disk.now.g disk.now.image.now files.now }
     ensures { result ≡ hash_differs disk.now.g disk.now.image.now s }
 {
-    let p = fault_kinds::file_of(disk, files, s);
+    let p = fault_kinds::file_of(disk.image, disk.g, files, s);
     let name = entry::name_of(disk, p);
     disk.hit(s) != name_hash::hash(&name)
 }

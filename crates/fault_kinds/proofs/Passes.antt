@@ -10,7 +10,7 @@ use borrow.Author.Tests.{not-false}
 use Rattle.meaning.specs.Lists.{count, every, each, keep, all}
 use Rattle.meaning.specs.Layout.{taken}
 use Rattle.meaning.specs.Entries.{in_use, runs, link, run_start, run_length, run_granules, entry_granules}
-use Rattle.meaning.specs.Consistent.{follows_by, runs_hold, gat_holds}
+use Rattle.meaning.specs.Consistent.{follows_by, pairs_hold, runs_hold, gat_holds}
 use Rattle.meaning.specs.Fault.{hands_on, good_extension, chain_fault, run_fault}
 use Rattle.meaning.specs.declared.Geometry.{Geometry}
 use Rattle.layout.specs.Room.{Slot}
@@ -57,6 +57,11 @@ ends-first true h = sym (rw h)
 ends-first false h = refl
 
 module _ (g : Geometry) (d : List ℕ) where
+  -- of four runs no pair is empty
+  pub four-hold : (s : ℕ) → runs g d s ≡ 4 → pairs_hold g d s ≡ true
+  unfolding pairs_hold
+  four-hold s e = rw e refl
+
   -- Along a walk ----------------------------------------------------------------------------------------------------------------
 
   reach-more : {left : ℕ} (s : ℕ) → 0 < left → reach g d left s ≡ s ∷ cond (hands_on g d s) (reach g d (left - 1) (link g d s)) []

@@ -16,6 +16,7 @@ ghost use Rattle.fault_kinds.specs.Tests.{pair_holds, first_file, leads, tally, 
 ghost use Rattle.fault_kinds.specs.Noted.{noted, notes, again, WalkNoted, FileNoted, Leading, Told};
 
 use layout::Disk;
+use meaning::Geometry;
 
 fn pair_holds(disk: &Disk, s: usize, n: usize, k: usize) -> bool
     requires { Slot disk.now.g disk.now.image.now s × (n ≡ runs disk.now.g disk.now.image.now s) × (k < 4) }
@@ -49,7 +50,7 @@ fn used_extension(disk: &Disk, x: usize) -> bool
     used(disk, x) && disk.flag(x, layout::EXTENSION)
 }
 
-// Whether an entry hands on to the next of its chain.
+// Whether an entry hands on to the next of its chain. Of four runs the pairs need not be asked: none is empty.
 fn hands_on(disk: &Disk, s: usize) -> bool
     requires { Slot disk.now.g disk.now.image.now s }
     ensures { result ≡ hands_on disk.now.g disk.now.image.now s }
@@ -57,7 +58,6 @@ fn hands_on(disk: &Disk, s: usize) -> bool
     disk.field(s, layout::MARKER) == layout::HANDS_ON
         && disk.runs(s) == 4
         && used_extension(disk, disk.field(s, layout::LINK))
-        && pairs_hold(disk, s)
 }
 
 // Whether an entry is the last of its chain.
@@ -132,28 +132,29 @@ pub fn note_files(disk: &Disk, files: &mut [u8; 256])
     }
 }
 
-// The first file whose walk meets x.
-fn first_file(disk: &Disk, files: &[u8], x: usize) -> Option<usize>
-    requires { FileNoted disk.now.g disk.now.image.now files.now × (x < 256) }
-    ensures { MatchOption result (first_file disk.now.g disk.now.image.now x ≡ 256) (λ p. (p ≡ first_file disk.now.g disk.now.image.now x) × (p < 256)) }
+// The first file whose walk meets x. What was noted of the disk answers this, as it answers `walked`, `file_of` and `good_extension`: they look at
+// no byte of the image, and ask nothing of it.
+fn first_file(image: &[u8], g: Geometry, files: &[u8], x: usize) -> Option<usize>
+    requires { FileNoted g image.now files.now × (x < 256) }
+    ensures { MatchOption result (first_file g image.now x ≡ 256) (λ p. (p ≡ first_file g image.now x) × (p < 256)) }
 {
     usize::from(files[x]).checked_sub(1)
 }
 
 // Whether some file's walk meets x.
-fn walked(disk: &Disk, files: &[u8], x: usize) -> bool
-    requires { FileNoted disk.now.g disk.now.image.now files.now × (x < 256) }
-    ensures { result ≡ has (walked disk.now.g disk.now.image.now) x }
+fn walked(image: &[u8], g: Geometry, files: &[u8], x: usize) -> bool
+    requires { FileNoted g image.now files.now × (x < 256) }
+    ensures { result ≡ has (walked g image.now) x }
 {
-    first_file(disk, files, x).is_some()
+    first_file(image, g, files, x).is_some()
 }
 
 // The file that an entry in use belongs to; s itself where no walk meets it.
-pub fn file_of(disk: &Disk, files: &[u8], s: usize) -> usize
-    requires { FileNoted disk.now.g disk.now.image.now files.now × Slot disk.now.g disk.now.image.now s }
-    ensures { (result ≡ file_of disk.now.g disk.now.image.now s) × Slot disk.now.g disk.now.image.now result }
+pub fn file_of(image: &[u8], g: Geometry, files: &[u8], s: usize) -> usize
+    requires { FileNoted g image.now files.now × Slot g image.now s }
+    ensures { (result ≡ file_of g image.now s) × Slot g image.now result }
 {
-    first_file(disk, files, s).unwrap_or(s)
+    first_file(image, g, files, s).unwrap_or(s)
 }
 
 // 1 where x, which a walk comes to from b, follows it, 2 where it does not: the bytes of `goods`, as `Leading` tells them.
@@ -181,7 +182,7 @@ fn tell_from(disk: &Disk, files: &[u8], b: usize, goods: &mut [u8; 256])
     requires { FileNoted disk.now.g disk.now.image.now files.now × (b < 256) × Leading disk.now.g disk.now.image.now b goods.old }
     ensures { Leading disk.now.g disk.now.image.now (b + 1) goods.new }
 {
-    if disk.is_slot(b) && hands_on(disk, b) && walked(disk, files, b) {
+    if disk.is_slot(b) && hands_on(disk, b) && walked(disk.image, disk.g, files, b) {
         let x = disk.field(b, layout::LINK);
         let t = tally(disk, x, b);
         tell(goods, x, t);
@@ -199,9 +200,9 @@ pub fn note_goods(disk: &Disk, files: &[u8], goods: &mut [u8; 256])
 }
 
 // Whether an extension is met in some file's chain, not twice, and well formed.
-pub fn good_extension(disk: &Disk, goods: &[u8], x: usize) -> bool
-    requires { Told disk.now.g disk.now.image.now goods.now × (x < 256) }
-    ensures { result ≡ good_extension disk.now.g disk.now.image.now x }
+pub fn good_extension(image: &[u8], g: Geometry, goods: &[u8], x: usize) -> bool
+    requires { Told g image.now goods.now × (x < 256) }
+    ensures { result ≡ good_extension g image.now x }
 {
     goods[x] == 1
 }
@@ -213,7 +214,7 @@ pub fn linked(disk: &Disk, goods: &[u8], s: usize) -> bool
     requires { Slot disk.now.g disk.now.image.now s × Told disk.now.g disk.now.image.now goods.now }
     ensures { result ≡ any (not (extension disk.now.g disk.now.image.now s) ∷ good_extension disk.now.g disk.now.image.now s ∷ []) }
 {
-    !disk.flag(s, layout::EXTENSION) || good_extension(disk, goods, s)
+    !disk.flag(s, layout::EXTENSION) || good_extension(disk.image, disk.g, goods, s)
 }
 
 pub fn chain_fault(disk: &Disk, goods: &[u8], s: usize) -> bool
@@ -439,7 +440,7 @@ pub fn directory_fault(disk: &Disk, files: &[u8], s: usize) -> bool
     requires { Slot disk.now.g disk.now.image.now s × FileNoted disk.now.g disk.now.image.now files.now }
     ensures { result ≡ directory_fault disk.now.g disk.now.image.now s }
 {
-    let p = file_of(disk, files, s);
+    let p = file_of(disk.image, disk.g, files, s);
     let b = disk.g.start / layout::granule_sectors(disk.g);
     let m = disk.directory_granules();
     disk.flag(s, layout::IN_USE) && !disk.flag(p, layout::SYSTEM) && entry_in(disk, s, b, m)

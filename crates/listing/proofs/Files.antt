@@ -5,7 +5,7 @@ use Rattle.std.specs.Option.{option_map}
 use mathlib.Core.Path.{◌≡◌, refl, sym, ap, subst, ◌∙◌}
 use mathlib.Core.List.{List, [], ◌∷◌}
 use mathlib.Core.Bool.{Bool, true, false, not, cond, ◌&&◌}
-use Prim.Native.Nat.{ℕ, zero, suc, ◌+◌, ◌-◌, ◌%◌, ◌≤◌, ◌<◌}
+use Prim.Native.Nat.{ℕ, zero, suc, ◌+◌, ◌-◌, ◌*◌, ◌/◌, ◌%◌, ◌≤◌, ◌<◌}
 use native.Mathlib.Omega.{arith}
 use native.Mathlib.Nat.{zero-add, add-zero}
 use lib.ListN.{length, drop}
@@ -77,18 +77,38 @@ module _ (g : Geometry) (d : List ℕ) where
       from-on l.low ∙ ap (λ (r : List ℕ). keep (shown g d) (keep (in_use_primary g d) r))
       (keep-yes (is_slot g d) (slot-yes g d s l.low l.held) (count (s + 1) (256 - (s + 1)))) ∙ keep_two s (keep (is_slot g d) (count (s + 1) (256 - (s + 1))))
 
-  -- no listed file starts there
-  from-no : {s : ℕ} → Slot g d s → Tells s ≡ false → listed_from g d s ≡ listed_from g d (s + 1)
-  from-no {s} l t = from-here l ∙ ap (λ (b : Bool). cond b (s ∷ listed_from g d (s + 1)) (listed_from g d (s + 1))) t
+  -- nor has it one from there to k slots on, in the same row
+  row-past : {s columns : ℕ} → s < 256 → columns ≡ directory_sectors g d - 2 → columns ≤ s % 32 → (k : ℕ) → s % 32 + k ≤ 32
+      → listed_from g d s ≡ listed_from g d (s + k)
+  row-past {s} l e h zero b = let q : s ≡ s + 0 = omega arith in ap (listed_from g d) q
+  row-past {s} {columns} l e h (suc k) b =
+      let q : s + k + 1 ≡ s + suc k = omega arith in
+      row-past l e h k (omega arith) ∙ from-past {columns = columns} (omega arith) e (omega arith) ∙ ap (listed_from g d) q
 
-  -- one does
-  from-yes : {s : ℕ} → Slot g d s → Tells s ≡ true → NextListed g d s s
-  from-yes {s} l t = record {
-    past = omega arith;
-    low = l.low;
-    used = record { slot = l; used = and_l (in_use g d s) (not (extension g d s)) (all-at _ t 0) };
-    ahead = from-here l ∙ ap (λ (b : Bool). cond b (s ∷ listed_from g d (s + 1)) (listed_from g d (s + 1))) t;
-  }
+  module _ {s columns : ℕ} (l : s < 256) (e : columns ≡ directory_sectors g d - 2) where
+    -- behind a row's last slot those of the next row are left
+    pub rest-past : columns ≤ s % 32 → listed_from g d s ≡ listed_from g d (32 * (s / 32 + 1))
+    rest-past h = let q : s + (32 - s % 32) ≡ 32 * (s / 32 + 1) = omega arith in
+        row-past l e h (32 - s % 32) (omega arith) ∙ ap (listed_from g d) q
+
+    here : s % 32 < columns → Slot g d s
+    here h = record { low = l; held = omega arith }
+
+    -- no listed file starts there
+    pub rest-no : s % 32 < columns → Tells s ≡ false → listed_from g d s ≡ listed_from g d (s + 1)
+    rest-no h t = from-here (here h) ∙ ap (λ (b : Bool). cond b (s ∷ listed_from g d (s + 1)) (listed_from g d (s + 1))) t
+
+    -- one does
+    pub rest-yes : s % 32 < columns → Tells s ≡ true → listed_from g d s ≡ s ∷ listed_from g d (s + 1)
+    rest-yes h t = from-here (here h) ∙ ap (λ (b : Bool). cond b (s ∷ listed_from g d (s + 1)) (listed_from g d (s + 1))) t
+
+    next-here : s % 32 < columns → Tells s ≡ true → NextListed g d s s
+    next-here h t = record {
+      past = omega arith;
+      low = l;
+      used = record { slot = here h; used = and_l (in_use g d s) (not (extension g d s)) (all-at _ t 0) };
+      ahead = rest-yes h t;
+    }
 
   -- what a search finds from slot s on: the first of the files that are left, or none
   abbrev pub Finds : ℕ → Option ℕ → Type 0
@@ -107,8 +127,8 @@ module _ (g : Geometry) (d : List ℕ) where
       rest = find (λ k. nat_lt (k % 32) columns && Tells k) (range_with_len (s + 1) n)
 
       by : (a : Bool) → nat_lt (s % 32) columns ≡ a → (b : Bool) → Tells s ≡ b → Finds (s + 1) rest → Finds s (cond (a && b) (Some s) rest)
-      by true p true q ih = from-yes (record { low = omega arith; held = (let l = ltb-true (s % 32) columns p in omega arith) }) q
-      by true p false q ih = finds-on s (from-no (record { low = omega arith; held = (let l = ltb-true (s % 32) columns p in omega arith) }) q) rest ih
+      by true p true q ih = next-here (omega arith) e (ltb-true (s % 32) columns p) q
+      by true p false q ih = finds-on s (rest-no (omega arith) e (ltb-true (s % 32) columns p) q) rest ih
       by false p b q ih = finds-on s (from-past {columns = columns} (omega arith) e (ltb-false (s % 32) columns p)) rest ih
 
   as-found : (r : Option ℕ) → option_map (λ x. x) r ≡ r

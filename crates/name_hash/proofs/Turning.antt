@@ -115,6 +115,19 @@ backwards-all = refl
 pub seven-turns : (h : ℕ) → h < 256 → rotate_right w8 h 1 ≡ turns 7 h
 seven-turns h p = eqb-true _ _ (all-below 256 backwards backwards-all h p)
 
+-- both as quotient and remainder reckon them
+abbrev reckoned : ℕ → Bool
+reckoned h = eqb (rotate_left w8 h 3) (h % 32 * 8 + h / 32) && eqb (rotate_right w8 h 1) (h % 2 * 128 + h / 2)
+
+reckoned-all : all_below 256 reckoned ≡ true
+reckoned-all = refl
+
+pub left-reckoned : (h : ℕ) → h < 256 → rotate_left w8 h 3 ≡ h % 32 * 8 + h / 32
+left-reckoned h p = eqb-true _ _ (and_l _ _ (all-below 256 reckoned reckoned-all h p))
+
+pub right-reckoned : (h : ℕ) → h < 256 → rotate_right w8 h 1 ≡ h % 2 * 128 + h / 2
+right-reckoned h p = eqb-true _ _ (and_r (eqb (rotate_left w8 h 3) (h % 32 * 8 + h / 32)) _ (all-below 256 reckoned reckoned-all h p))
+
 -- ---- what a run does to a value
 
 pub mix-lt : (h x : ℕ) → h < 256 → x < 256 → mix h x < 256

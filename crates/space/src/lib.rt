@@ -127,16 +127,21 @@ pub fn run_taken(disk: &Disk, a: usize, n: usize) -> bool
     units_taken(disk, b, u, left)
 }
 
-// Takes or gives back the granules of the entry at slot s, run by run.
+// Takes or gives back the granules of the entry at slot s, run by run. A pair is read once, and not by `runs`, `run_start` and `run_length`: between
+// two stores rustc reads it anew for each of them, and a kill of a scattered file costs a third more.
 fn mark_entry(image: &mut [u8], g: Geometry, s: usize, set: bool)
     requires { Room g image.old × RunsOnDisk g image.old s }
     ensures { image.new ≡ through (mark g set) image.old (entry_granules g image.old s) }
 {
-    let runs = Disk { image, g }.runs(s);
-    for j in 0..runs {
+    for j in 0..layout::PAIRS {
         let disk = Disk { image, g };
-        let a = disk.run_start(s, j);
-        let len = disk.run_length(s, j);
+        let block = disk.field(s, layout::BLOCKS + 2 * j);
+        if block == layout::ENDS {
+            return;
+        }
+        let second = disk.field(s, layout::SECONDS + 2 * j);
+        let a = block * g.units + second / 32;
+        let len = 1 + second % 32;
         mark_run(image, g, a, len, set);
     }
 }

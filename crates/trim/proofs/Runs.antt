@@ -27,6 +27,15 @@ use Rattle.trim.specs.Last.{Last, Dropping}
 use Rattle.trim.proofs.Trimming.{last-reads, last-run, last-granule, last-before, by-shorter, by-emptied, by-unhooked, dropping-start, dropping-one}
 use Rattle.trim.proofs.Trimming.{dropping-step}
 
+-- A pair that is read once -------------------------------------------------------------------------------------------------------
+
+module _ (g : Geometry) (d : List ℕ) (e k : ℕ) {second : ℕ} (q : second ≡ field g d e (0x17 + 2 * k)) where
+  pub length-read : 1 + second % 32 ≡ run_length g d e k
+  length-read = ap (λ (x : ℕ). 1 + x % 32) q
+
+  pub start-read : {block : ℕ} → block ≡ field g d e (0x16 + 2 * k) → block * g.units + second / 32 ≡ run_start g d e k
+  start-read p = ap₂ (λ (b x : ℕ). b * g.units + x / 32) p q
+
 -- Granules given back in either order --------------------------------------------------------------------------------------------
 
 half : (y x : ℕ) → (y * 2 + x % 2) / 2 ≡ y

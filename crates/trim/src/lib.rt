@@ -56,8 +56,11 @@ fn drop_run(image: &mut [u8], g: Geometry, p: usize, e: usize, n: usize) -> Drop
 {
     let disk = Disk { image, g };
     let k = disk.runs(e) - 1;
-    let len = disk.run_length(e, k);
-    let a = disk.run_start(e, k);
+    // read once, as in `space::mark_entry`
+    let block = disk.field(e, layout::BLOCKS + 2 * k);
+    let second = disk.field(e, layout::SECONDS + 2 * k);
+    let len = 1 + second % 32;
+    let a = block * g.units + second / 32;
     let extension = disk.flag(e, layout::EXTENSION);
     let before = disk.field(e, layout::BACK);
     if n < len {

@@ -1,11 +1,14 @@
-use Rattle.std.proofs.Common.{rules, tests}
+use Rattle.std.proofs.Common.{rules, tests, refl}
 use Rattle.std.proofs.lemmas.Iterator.{YieldsList-from_slice, YieldsList-from_zip}
 use Rattle.std.proofs.lemmas.Iterator.Search.{position_from_yields_List}
 use Rattle.compare_bytes.proofs.Contents.{same_alike, apart, found-apart}
 use Rattle.compare_bytes.proofs.alike.Goals as goal
 
-pub returns-then-eq : goal.returns-then-eq
-returns-then-eq c = same_alike _ _ c.eq.ensures c.if-eq.true
+pub equal-requires : goal.equal-requires
+equal-requires c = c.requires
+
+pub returns-then-equal : goal.returns-then-equal
+returns-then-equal c = same_alike _ _ refl c.equal.ensures c.if-equal.true
 
 pub returns : goal.returns
 returns c =
