@@ -1,16 +1,13 @@
 -- The listed files, slot by slot.
-use Rattle.std.specs.Prelude.{Option, Some, None, MatchOption, nat_lt}
-use Rattle.std.specs.List.{find, range_with_len}
-use Rattle.std.specs.Option.{option_map}
-use mathlib.Core.Path.{◌≡◌, refl, sym, ap, subst, ◌∙◌}
+use mathlib.Core.Path.{◌≡◌, refl, sym, ap, ◌∙◌}
 use mathlib.Core.List.{List, [], ◌∷◌}
-use mathlib.Core.Bool.{Bool, true, false, not, cond, ◌&&◌}
+use mathlib.Core.Bool.{Bool, true, false, not, cond}
 use Prim.Native.Nat.{ℕ, zero, suc, ◌+◌, ◌-◌, ◌*◌, ◌/◌, ◌%◌, ◌≤◌, ◌<◌}
 use native.Mathlib.Omega.{arith}
 use native.Mathlib.Nat.{zero-add, add-zero}
 use lib.ListN.{length, drop}
 use lib.Seq.{drop-nil}
-use borrow.Author.Tests.{ne_eqb, ltb-true, ltb-false}
+use borrow.Author.Tests.{ne_eqb}
 use Rattle.meaning.specs.Lists.{count, keep, all}
 use Rattle.meaning.specs.Layout.{is_slot, slots, directory_sectors}
 use Rattle.meaning.specs.Entries.{in_use, extension, in_use_primary, name_of, size_of}
@@ -102,42 +99,14 @@ module _ (g : Geometry) (d : List ℕ) where
     pub rest-yes : s % 32 < columns → Tells s ≡ true → listed_from g d s ≡ s ∷ listed_from g d (s + 1)
     rest-yes h t = from-here (here h) ∙ ap (λ (b : Bool). cond b (s ∷ listed_from g d (s + 1)) (listed_from g d (s + 1))) t
 
-    next-here : s % 32 < columns → Tells s ≡ true → NextListed g d s s
-    next-here h t = record {
-      past = omega arith;
+    -- of what is left from a slot before, it is the first
+    pub next-here : {from : ℕ} → s % 32 < columns → Tells s ≡ true → from ≤ s → listed_from g d from ≡ listed_from g d s → NextListed g d from s
+    next-here h t f p = record {
+      past = f;
       low = l;
       used = record { slot = here h; used = and_l (in_use g d s) (not (extension g d s)) (all-at _ t 0) };
-      ahead = rest-yes h t;
+      ahead = p ∙ rest-yes h t;
     }
-
-  -- what a search finds from slot s on: the first of the files that are left, or none
-  abbrev pub Finds : ℕ → Option ℕ → Type 0
-  Finds s r = MatchOption r (listed_from g d s ≡ []) (NextListed g d s)
-
-  finds-on : (s : ℕ) → listed_from g d s ≡ listed_from g d (s + 1) → (r : Option ℕ) → Finds (s + 1) r → Finds s r
-  finds-on s e None h = e ∙ h
-  finds-on s e (Some r) h = let p = h.past in record { past = omega arith; low = h.low; used = h.used; ahead = e ∙ h.ahead }
-
-  finds-first : {columns : ℕ} → columns ≡ directory_sectors g d - 2 → (s n : ℕ) → n ≡ 256 - s
-      → Finds s (find (λ k. nat_lt (k % 32) columns && Tells k) (range_with_len s n))
-  finds-first e s zero h = from-end (omega arith)
-  finds-first {columns} e s (suc n) h = by (nat_lt (s % 32) columns) refl (Tells s) refl (finds-first e (s + 1) n (omega arith))
-    where
-      rest : Option ℕ
-      rest = find (λ k. nat_lt (k % 32) columns && Tells k) (range_with_len (s + 1) n)
-
-      by : (a : Bool) → nat_lt (s % 32) columns ≡ a → (b : Bool) → Tells s ≡ b → Finds (s + 1) rest → Finds s (cond (a && b) (Some s) rest)
-      by true p true q ih = next-here (omega arith) e (ltb-true (s % 32) columns p) q
-      by true p false q ih = finds-on s (rest-no (omega arith) e (ltb-true (s % 32) columns p) q) rest ih
-      by false p b q ih = finds-on s (from-past {columns = columns} (omega arith) e (ltb-false (s % 32) columns p)) rest ih
-
-  as-found : (r : Option ℕ) → option_map (λ x. x) r ≡ r
-  as-found None = refl
-  as-found (Some x) = refl
-
-  pub found-first : {columns : ℕ} → columns ≡ directory_sectors g d - 2 → (s : ℕ) (r : Option ℕ)
-      → option_map (λ x. x) r ≡ find (λ k. nat_lt (k % 32) columns && Tells k) (range_with_len s (256 - s)) → Finds s r
-  found-first e s r f = subst (Finds s) (sym f ∙ as-found r) (finds-first e s (256 - s) refl)
 
   -- of the files from number i on, `left` are to be passed over from slot s on
   pub record Telling (i left s : ℕ) : Type 0 where

@@ -27,12 +27,24 @@ fn tells(disk: &Disk, s: usize) -> bool
     disk.primary(s) && !disk.system(s)
 }
 
-// The first slot from `from` on at which a file that is listed starts.
+// The first slot from `from` on at which a file that is listed starts. A `find` over the numbers up to 256 would ask three times as many as a small
+// directory has slots.
 fn next_listed(disk: &Disk, from: usize) -> Option<usize>
     ensures { MatchOption result (listed_from disk.now.g disk.now.image.now from ≡ []) (λ s. NextListed disk.now.g disk.now.image.now from s) }
 {
     let columns = disk.columns();
-    (from..256).find(|s| s % 32 < columns && tells(disk, *s))
+    let mut s = from;
+    // behind a row's last slot the next row begins
+    while s < 256 {
+        if columns <= s % 32 {
+            s = 32 * (s / 32 + 1);
+        } else if tells(disk, s) {
+            return Some(s);
+        } else {
+            s += 1;
+        }
+    }
+    None
 }
 
 // Nothing told of a file: a refusal, or "no more".
