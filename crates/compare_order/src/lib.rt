@@ -63,6 +63,7 @@ fn put_at(order: &mut [u8], n: usize, i: usize, x: u8)
     requires { (i ≤ n) × (n < length order.old) }
     ensures { PutIn order.old n i x order.new }
 {
+    // one by one, since `copy_within` is a `memmove`
     let mut carried = x;
     for k in i..n {
         let next = order[k];
