@@ -11,25 +11,29 @@ use borrow.Author.Tests.{eq-eqb, ne_eqb}
 use Rattle.meaning.specs.Lists.{count, each, last_or}
 use Rattle.lists.specs.Members.{length-count}
 use Rattle.meaning.specs.Layout.{slots, directory_sectors}
-use Rattle.meaning.specs.Entries.{runs, run_length, run_granules, entry_granules, marker, link}
+use Rattle.meaning.specs.Entries.{block, runs, runs_from, run_length, run_granules, entry_granules, marker, link}
 use Rattle.meaning.specs.Chain.{chain_from, chain, owned}
 use Rattle.meaning.specs.declared.Geometry.{Geometry}
 use Rattle.lists.specs.Members
 use Rattle.layout.specs.Room.{Below}
+use Rattle.layout.proofs.OneStep.{runs-more, runs_none}
 use Rattle.lists.specs.Ranges.{left-more}
 use Rattle.seek.specs.Seek.{Walkable, Used, onward}
 use Rattle.seek.proofs.SeekSteps.{chain-none, slots_length}
 use Rattle.extent.specs.Reach.{Reaches}
 
 module _ (g : Geometry) (d : List ℕ) where
-  -- The granules of an entry, k of its runs counted ------------------------------------------------------------------------
+  -- The granules of an entry, k of its pairs counted ----------------------------------------------------------------------
 
   pub record CountingRuns (s k n : ℕ) : Type 0 where
+    pub rest : runs g d s ≡ runs_from g d s (4 - k) k
     pub sum : n ≡ length (each (run_granules g d s) (count 0 k))
+    pub low : k ≤ 4
     pub small : n ≤ 32 * k
 
   pub counting-start : (s : ℕ) → CountingRuns s 0 0
-  counting-start s = record { sum = refl; small = omega arith }
+  unfolding runs
+  counting-start s = record { rest = refl; sum = refl; low = omega arith; small = omega arith }
 
   each_snoc : (s k : ℕ) → length (each (run_granules g d s) (count 0 (k + 1))) ≡ length (each (run_granules g d s) (count 0 k)) + run_length g d s k
   each_snoc s k =
@@ -40,15 +44,27 @@ module _ (g : Geometry) (d : List ℕ) where
       ∙ ap (λ (j : ℕ). length (each (run_granules g d s) (count 0 k)) + j)
       (ap {B = ℕ} length (Members.each-one (run_granules g d s) (0 + k)) ∙ length-count _ _ ∙ ap (run_length g d s) (omega arith))
 
-  pub counting-step : {s k n m : ℕ} → CountingRuns s k n → Below 33 (run_length g d s k) m → CountingRuns s (k + 1) (n + m)
-  counting-step {s} {k} c e = record { sum = ap₂ (λ (i j : ℕ). i + j) c.sum e.is ∙ sym (each_snoc s k); small = omega (arith, c.small, e.small) }
-
-  pub counting-end : {s k n m : ℕ} → CountingRuns s k n → Below 5 (runs g d s) m → k ≡ m → Below 129 (length (entry_granules g d s)) n
-  unfolding entry_granules
-  counting-end {s} c r e = record {
-    is = c.sum ∙ ap (λ (j : ℕ). length (each (run_granules g d s) (count 0 j))) (e ∙ r.is);
-    small = omega (arith, c.small, r.small);
+  pub counting-step : {s k n m : ℕ} → CountingRuns s k n → k < 4 → (block g d s k ≡ 0xff → ⊥) → Below 33 (run_length g d s k) m
+      → CountingRuns s (k + 1) (n + m)
+  counting-step {s} {k} c h f e = record {
+    rest = c.rest ∙ simp (left-more h, runs-more, ne_eqb _ _ f);
+    sum = ap₂ (λ (i j : ℕ). i + j) c.sum e.is ∙ sym (each_snoc s k);
+    low = omega arith;
+    small = omega (arith, c.small, e.small);
   }
+
+  runs-counted : {s k n : ℕ} → CountingRuns s k n → runs g d s ≡ k → Below 129 (length (entry_granules g d s)) n
+  unfolding entry_granules
+  runs-counted {s} c r = record {
+    is = c.sum ∙ ap (λ (j : ℕ). length (each (run_granules g d s) (count 0 j))) (sym r);
+    small = omega (arith, c.small, c.low);
+  }
+
+  pub counting-stop : {s k n : ℕ} → CountingRuns s k n → k < 4 → block g d s k ≡ 0xff → Below 129 (length (entry_granules g d s)) n
+  counting-stop c h f = runs-counted c (c.rest ∙ simp (left-more h, runs-more, eq-eqb _ _ f))
+
+  pub counting-end : {s k n : ℕ} → CountingRuns s k n → 4 ≤ k → Below 129 (length (entry_granules g d s)) n
+  counting-end {k = k} c h = let l = c.low in let e : k ≡ 4 = omega arith in runs-counted c (c.rest ∙ simp (e, runs_none))
 
   -- The entries of a file: i of `most` are counted, and slot `at` comes next ---------------------------------------------------
 

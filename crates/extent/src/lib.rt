@@ -33,7 +33,11 @@ pub fn entry_length(disk: &Disk, s: usize) -> usize
     ensures { Below 129 (length (entry_granules disk.now.g disk.now.image.now s)) result }
 {
     let mut n = 0;
-    for k in 0..disk.runs(s) {
+    // in one pass: `Disk::runs` would go over the pairs once more
+    for k in 0..layout::PAIRS {
+        if disk.field(s, layout::BLOCKS + 2 * k) == layout::ENDS {
+            return n;
+        }
         n += disk.run_length(s, k);
     }
     n

@@ -4,6 +4,7 @@
 ghost use Rattle.std.specs.Prelude.{◌≡◌, [], ◌∷◌, ◌+◌, ◌≤◌, length, drop, MatchOption};
 ghost use Rattle.std.proofs.lemmas.List.Edits.{sets};
 ghost use Rattle.meaning.specs.Lists.{all};
+ghost use Rattle.meaning.specs.Layout.{entry_at};
 ghost use Rattle.meaning.specs.Entries.{in_use_primary};
 ghost use Rattle.meaning.specs.Listing.{no_file, shown, listed, tell_first, list, counts};
 ghost use Rattle.meaning.specs.Refusals.{check};
@@ -19,30 +20,33 @@ use refusal::Why;
 
 const ROW_BYTES: usize = 20;
 
-// Whether a file that is listed starts at slot s: a primary entry in use, without the system flag.
-fn tells(disk: &Disk, s: usize) -> bool
-    requires { Slot disk.now.g disk.now.image.now s }
+// Whether a file that is listed starts at slot s, whose entry is at `at`: a primary entry in use, without the system flag. One byte is read.
+fn tells(disk: &Disk, s: usize, at: usize) -> bool
+    requires { Slot disk.now.g disk.now.image.now s × (at ≡ entry_at disk.now.g s) }
     ensures { result ≡ all (in_use_primary disk.now.g disk.now.image.now s ∷ shown disk.now.g disk.now.image.now s ∷ []) }
 {
-    disk.primary(s) && !disk.system(s)
+    disk.primary_at(s, at) && !layout::is_set(usize::from(disk.image[at]), layout::SYSTEM)
 }
 
-// The first slot from `from` on at which a file that is listed starts. A `find` over the numbers up to 256 would ask three times as many as a small
-// directory has slots.
+// The first slot from `from` on at which a file that is listed starts. Row by row, so that the next entry is 256 bytes on.
 fn next_listed(disk: &Disk, from: usize) -> Option<usize>
     ensures { MatchOption result (listed_from disk.now.g disk.now.image.now from ≡ []) (λ s. NextListed disk.now.g disk.now.image.now from s) }
 {
     let columns = disk.columns();
     let mut s = from;
-    // behind a row's last slot the next row begins
     while s < 256 {
-        if columns <= s % 32 {
-            s = 32 * (s / 32 + 1);
-        } else if tells(disk, s) {
-            return Some(s);
-        } else {
+        let row = 32 * (s / 32);
+        let end = row + columns;
+        let mut at = layout::entry_at(disk.image, disk.g, row) + 256 * (s - row);
+        while s < end {
+            if tells(disk, s, at) {
+                return Some(s);
+            }
             s += 1;
+            at += 256;
         }
+        // behind a row's last slot the next row begins
+        s = row + 32;
     }
     None
 }
